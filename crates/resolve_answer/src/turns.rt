@@ -14,8 +14,8 @@ use resolvo_pool_core::want::{R, Want};
 use resolvo_report::Step;
 use std::alloc::Global;
 
-/// The outcome of a search: the numbers of the chosen versions, the turns, and the place of each
-/// step of the proof among the written steps.
+/// The outcome of a search. It has the numbers of the chosen versions, the turns, and the place of
+/// each step of the proof among the written steps.
 #[derive(Clone, Copy)]
 pub struct Outcome<'a> {
     pub chosen: &'a [VersionNo],

@@ -12,7 +12,7 @@ pub enum Release {
 }
 
 impl Release {
-    /// Is done with a value.
+    /// Releases a value, or leaves it to the end of the process.
     pub fn done_with<T: Drop>(self, value: T) {
         match self {
             Release::Now => drop(value),

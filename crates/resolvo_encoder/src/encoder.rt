@@ -43,7 +43,7 @@ use std::alloc::Global;
 use std::fmt::Debug;
 use std::hash::Hash;
 
-/// From so many candidates on, a requirement gets a gate, and a constraint an auxiliary variable
+/// From this many candidates on, a requirement gets a gate, and a constraint an auxiliary variable
 /// for the candidates outside.
 pub const GATED: usize = 4;
 
@@ -350,7 +350,7 @@ impl<N: Copy + Exact + Hash + Debug + Drop, S: Copy + Exact + Hash + Debug> Enco
         Ok(())
     }
 
-    /// Adds a requires clause for a case of a condition, and puts it into the decision queue: a
+    /// Adds a requires clause for a case of a condition, and puts it into the decision queue. A
     /// variable is false, or a literal of the case is true, or a candidate is chosen.
     pub(crate) fn encode_case(
         &mut self,

@@ -1,4 +1,4 @@
-//! The turn of a soft requirement. It is decided at the turn's first level, or a clause denies it
+//! The turn of a soft requirement. It is decided at the turn's base level, or a clause denies it
 //! that explains its conflict with earlier turns.
 ghost use Rattle.std.specs.Prelude.{◌≡◌, ◌<◌, true, length, None, Some, IfOk, OnOk, IsErrOf, IsOkUnless};
 ghost use Rattle.resolvo_pool_core.specs.declared.want.Want.TheVariants.{Memory, Ids};
@@ -37,7 +37,7 @@ impl<N: Copy + Exact + Hash + Debug + Drop, S: Copy + Exact + Hash + Debug> Enco
         self.coding.set_base_level(level);
     }
 
-    /// Decides a soft requirement at the first level of its turn, unless it is true. Where it is
+    /// Decides a soft requirement at the base level of its turn, unless it is true. Where it is
     /// already false, returns the final conflict.
     pub fn assume_soft(&mut self, alloc: Global, variable: VariableId) -> R<Option<FinalConflict>>
         requires built { IsBuilt self.old }
@@ -60,7 +60,7 @@ impl<N: Copy + Exact + Hash + Debug + Drop, S: Copy + Exact + Hash + Debug> Enco
         Ok(refusal)
     }
 
-    /// Decides a soft requirement that isn't true at the first level of its turn. Where it is
+    /// Decides a soft requirement that isn't true at the base level of its turn. Where it is
     /// false, returns the final conflict.
     fn choose_or_refute(&mut self, alloc: Global, variable: VariableId) -> R<Option<FinalConflict>>
         requires built { IsBuilt self.old }
@@ -82,7 +82,7 @@ impl<N: Copy + Exact + Hash + Debug + Drop, S: Copy + Exact + Hash + Debug> Enco
         Ok(None)
     }
 
-    /// Decides an undecided soft requirement at the first level of its turn.
+    /// Decides an undecided soft requirement at the base level of its turn.
     pub fn choose_soft(&mut self, variable: VariableId) -> R<()>
         requires built { IsBuilt self.old }
         requires above { top_level (history self.old.coding.search) < self.old.coding.search.base_level }

@@ -112,7 +112,7 @@ impl<N: Copy + Exact + Hash + Debug + Drop, S: Copy + Exact + Hash + Debug> Enco
         self.coding.undo_until(level);
     }
 
-    /// Propagates, and learns nothing. Whether a clause is falsified above the turn's first level.
+    /// Propagates, and learns nothing. Whether a clause is falsified above the turn's base level.
     pub fn propagate(&mut self) -> R<bool>
         requires { IsBuilt self.old }
         // After an answer.
@@ -127,7 +127,7 @@ impl<N: Copy + Exact + Hash + Debug + Drop, S: Copy + Exact + Hash + Debug> Enco
         Ok(self.is_above_first(falsified))
     }
 
-    /// Whether there is a falsified clause, and a literal of it got its value above the turn's first
+    /// Whether there is a falsified clause, and a literal of it got its value above the turn's base
     /// level.
     fn is_above_first(&self, falsified: Option<ClauseId>) -> bool
         requires { IfSome falsified (λ c. c.0 < length self.now.coding.search.clauses) }

@@ -48,9 +48,9 @@ impl SatState {
         Ok(clause)
     }
 
-    /// The literals that a new clause of more than two is to watch: its first one, and beside it the
-    /// first that is not false, or else the next one. A learnt clause is to watch its first and its
-    /// last literal.
+    /// The literals that a new clause of more than two is to watch. It is its first one, and beside
+    /// it the first that is not false, or else the next one. A learnt clause is to watch its first
+    /// and its last literal.
     fn first_watches(
         &self,
         watching: &WatchLists,

@@ -20,13 +20,13 @@ use std::alloc::Global;
 /// The result of a conflict analysis.
 #[derive(Debug, Drop)]
 pub enum Analysis {
-    /// The choices before the turn, and the one that began it, contradict each other.
+    /// The decisions before the turn, and the assumption that began it, contradict each other.
     Refused(FinalConflict),
     /// A clause was learnt that asserts a literal at a lower level of the turn.
     Learnt(Learnt),
 }
 
-/// A clause that denies choices which contradict each other, that of the turn itself last. Its
+/// A clause that denies decisions which contradict each other, that of the turn itself last. Its
 /// antecedents are in the order of a RUP check.
 #[derive(Debug, Drop)]
 pub struct FinalConflict {
@@ -155,8 +155,8 @@ impl Marked {
 impl SatState {
     /// Walks back along the trail from a falsified clause. Each marked entry of the turn is
     /// resolved with its reason, until only one is left of its level. The clause that denies it and
-    /// what was met below its level is then learnt. Where no marked entry is left, only choices were
-    /// kept, which contradict each other.
+    /// what was met below its level is then learnt. Where no marked entry is left, only decisions
+    /// were kept, which contradict each other.
     pub fn analyze(&self, alloc: Global, seen: &mut Marks, falsified: ClauseId) -> R<Analysis>
         requires state { IsState self.now }
         requires in_range { falsified.0 < length self.now.clauses }
@@ -199,8 +199,8 @@ impl SatState {
         }))
     }
 
-    /// Whether an entry is the last marked one of its level, above the turn's first level. While some
-    /// before it are counted of the conflict's level, none is searched for.
+    /// Whether an entry is the last marked one of its level, above the turn's base level. While
+    /// some before it are counted of the conflict's level, none is searched for.
     fn is_asserting(&self, place: usize, entry: Entry, marked: Marked, seen: &Marks) -> bool
         requires state { IsState self.now }
         requires in_range { place ≤ length self.now.tracker.trail }
@@ -295,7 +295,7 @@ impl SatState {
         }))
     }
 
-    /// Whether an entry is a choice, which the analysis does not resolve.
+    /// Whether an entry is a decision, which the analysis does not resolve.
     pub(crate) fn is_decision(&self, place: usize, entry: Entry) -> bool
         requires state { IsState self.now }
         requires in_range { place < length self.now.tracker.trail }
@@ -310,7 +310,7 @@ impl SatState {
         self.level_before(place) < entry.level
     }
 
-    /// The kept literals, with that of the turn's own choice last. It was met first.
+    /// The kept literals, with that of the turn's own decision last. It was met first.
     fn with_own_last(&self, kept: Vec<Literal>) -> R<Vec<Literal>>
         ensures same { IfOk result (λ literals. IsPermutation kept.items literals.items) }
         ensures refusal { IsOkUnless result Memory }

@@ -18,7 +18,7 @@ use std::alloc::Global;
 
 impl SatState {
     /// Why a variable is false, before a turn has assigned anything. It is a clause that denies the
-    /// variable and choices of earlier turns, with its antecedents in the order of a RUP check.
+    /// variable and decisions of earlier turns, with its antecedents in the order of a RUP check.
     /// None where the variable isn't false.
     pub fn analyze_final(&self, alloc: Global, variable: VariableId) -> R<Option<FinalConflict>>
         requires state { IsState self.now }
@@ -53,7 +53,7 @@ impl SatState {
     }
 
     /// Walks back along the trail from the reason of an entry. Each marked entry is resolved with
-    /// its reason, except choices, which the clause denies. The entry's own literal comes last.
+    /// its reason, except decisions, which the clause denies. The entry's own literal comes last.
     fn reason(&self, alloc: Global, place: usize, entry: Entry) -> R<FinalConflict>
         requires state { IsState self.now }
         requires above { top_level (history self.now) < self.now.base_level }

@@ -1,5 +1,6 @@
-//! Pending clauses begin to watch, in the order of addition. They were visited before
-//! (`visit_pending`), so each may watch the literals that it is to watch.
+//! Pending clauses begin to watch, in the order of addition. `visit_pending` visited them
+//! before. So each may watch the two literals that were noted for it. The rule is in
+//! checks/plain_solver.py.
 ghost use Rattle.std.specs.Prelude.{◌≡◌, ◌-◌, ◌<◌, length, reverse, slice_get, true, false, IfOk, IfSome, IsOkUnless};
 ghost use Rattle.resolvo_pool_core.specs.declared.want.Want.TheVariants.{Memory};
 ghost use Rattle.resolvo_store_core.specs.Signed.{same_literal, has};
@@ -106,8 +107,8 @@ impl SatState {
         Some(start)
     }
 
-    /// The literals that the last pending clause is to watch, if they are two of its own: those of a
-    /// clause of two, or what was noted.
+    /// The literals that the last pending clause is to watch, if they are two of its own. A clause
+    /// of two watches both; of a longer one they were noted.
     fn own_start(&self, watching: &WatchLists, clause: ClauseId) -> Option<WatchedLiterals>
         requires in_range { clause.0 < length self.now.clauses }
         ensures { IfSome result

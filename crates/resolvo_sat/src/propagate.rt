@@ -66,7 +66,7 @@ impl SatState {
         None
     }
 
-    /// How many of a clause's first literals are false, of these at least.
+    /// How many of a clause's first literals are false: `passed` at least.
     fn false_ones(&self, clause: ClauseId, passed: usize) -> usize
         requires state { IsState self.now }
         requires in_range { clause.0 < length self.now.clauses }
@@ -246,7 +246,7 @@ impl SatState {
     }
 
     /// Assigns what the clauses force, from the propagation head on, or returns a falsified clause.
-    /// Unit clauses that were true at its last end, and are so still, are not visited again.
+    /// Unit clauses that were true when it last ended, and still are, are not visited again.
     pub fn propagate(&mut self, watching: &mut WatchLists) -> R<Option<ClauseId>>
         requires ready { IsReady self.old watching.old }
         requires covered { AreCovered self.old watching.old }

@@ -23,8 +23,8 @@ pub enum VariableKind {
     Helper,
 }
 
-/// The variables by their numbers, the clauses, the trail, and the first level of the turn, below
-/// which no jump goes. The first `qhead` entries of the trail were propagated. Where they make a
+/// The variables by their numbers, the clauses, the trail, and the turn's base level, below
+/// which no backjump goes. The first `qhead` entries of the trail were propagated. Where they make a
 /// watched literal false, its true guard is at its level or below, or else not above `guard_level`.
 pub struct SatState {
     pub variables: Vec<VariableKind>,

@@ -54,7 +54,7 @@ pub struct WatchLists {
     /// either.
     pub places: Vec<u32>,
     /// How many of each clause's first literals are false at the first level, as far as it is known.
-    /// A search for a free literal skips them. No proof rests on it either.
+    /// A search for a replacement watch looks at them last. No proof rests on it either.
     pub passed: Vec<u32>,
     /// What new clauses set at once, in their order: the literal, and beside it another one. No proof
     /// rests on it: it is tested.

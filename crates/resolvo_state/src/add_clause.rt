@@ -1,4 +1,4 @@
-//! Adds a clause that encodes a rule, or one that denies choices which contradict each other.
+//! Adds a clause that encodes a rule, or one that denies decisions which contradict each other.
 ghost use Rattle.std.specs.Prelude.{◌≡◌, ◌<◌, length, IfOk, IsErrOf, IsSome};
 ghost use Rattle.resolvo_pool_core.specs.declared.want.Want.TheVariants.{Ids};
 ghost use Rattle.resolvo_sat.specs.State.{count_of};

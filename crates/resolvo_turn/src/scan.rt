@@ -120,8 +120,8 @@ fn condition_at<N: Copy + Exact + Hash + Debug, S: Copy + Exact + Hash + Debug>(
     encoding.deferred.get(place)?.need.condition
 }
 
-/// Finds the cases that may hold by the choices since their last scan, and the new ones: by
-/// condition, and of one condition in the order in which they were deferred.
+/// Finds the new cases, and those that may hold by the decisions since their last scan. They come
+/// by condition, and of one condition in the order in which they were deferred.
 pub(crate) fn find_touched<A: PackageSource>(
     alloc: Global,
     answers: &A,

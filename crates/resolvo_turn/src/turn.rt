@@ -183,7 +183,7 @@ fn choose_first<N: Copy + Exact + Hash + Debug, S: Copy + Exact + Hash + Debug>(
 }
 
 /// Propagates after an encoding. Undoes the turn's decisions if a clause is falsified above its
-/// first level.
+/// base level.
 fn undo_falsified<N: Copy + Exact + Hash + Debug, S: Copy + Exact + Hash + Debug>(
     encoding: &mut Encoder<N, S>,
     soft: Option<VariableId>,
@@ -208,7 +208,7 @@ fn undo_falsified<N: Copy + Exact + Hash + Debug, S: Copy + Exact + Hash + Debug
 }
 
 /// Begins the search after an encoding: assumes the turn's soft requirement, and propagates. Where
-/// a clause is falsified above the turn's first level, the turn begins again. The scan follows. The
+/// a clause is falsified above the turn's base level, the turn begins again. The scan follows. The
 /// conflict, if the soft requirement is false.
 fn begin_search<N: Copy + Exact + Hash + Debug, S: Copy + Exact + Hash + Debug>(
     alloc: Global,

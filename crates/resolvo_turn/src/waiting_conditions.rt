@@ -1,6 +1,6 @@
-//! The conditions of listed cases that wait, with the number of these: in the order in which they
-//! were first deferred, but the last one takes the place of one that has none left. No contract
-//! depends on them.
+//! The conditions of deferred cases, each with the number of its cases, in the order in which they
+//! were first deferred. Where a condition has no case left, the last one takes its place. No
+//! contract depends on them.
 ghost use Rattle.std.specs.Prelude.{IsOkUnless};
 ghost use Rattle.resolvo_pool_core.specs.declared.want.Want.TheVariants.{Memory};
 
