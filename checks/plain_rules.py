@@ -20,7 +20,7 @@ Alternatives = tuple[Spec, ...]
 
 @dataclass(frozen=True)
 class Options:
-    """Where the search may go another way; the defaults are the rules."""
+    """Where the search may go another way; the defaults are the rules, and the program goes by them."""
 
     # What a program might do, and this one did.
     pending: bool = False  # new clauses wait for the next propagation, which doesn't begin at the trail's front
@@ -50,9 +50,6 @@ class Options:
     helped: int = 4  # from so many versions outside it on a limit has a helper
     added: int = 1_000_000  # how much a version of a learnt clause raises its package's score
     decay: int = 950_000  # how many millionths of each score are left after a learnt clause
-
-
-PROGRAM = Options()
 
 
 # ---- what a clause states

@@ -1,9 +1,9 @@
 """A plain, slow search for what a request asks, by the rules that docs/DIFFERENCES.md compares with the program: one function a rule.
 
 `search(catalogue, request, options)` takes two texts as values (tools/texts.py) and returns what each turn chose, or the conflict,
-with all clauses. `Options()` is the search by the rules; each field of Options has another way. `PROGRAM` is what the program does
-today. Nothing here is shared with the program that it is compared with, and nothing is quick. plain_rules.py has what clauses state,
-plain_solver.py the search over clauses; here are the encoding and the turns.
+with all clauses. `Options()` is the search by the rules; each field of Options has another way. Nothing here is shared with the program
+that it is compared with, and nothing is quick. plain_rules.py has what clauses state, plain_solver.py the search over clauses; here are
+the encoding and the turns.
 """
 from __future__ import annotations
 
@@ -11,13 +11,13 @@ from collections import deque
 from dataclasses import dataclass
 from typing import Callable, Iterable, Optional
 
-from plain_rules import PROGRAM, ROOT, Alternatives, Atom, Case, Clause, Digit, Excluded, Facts, Gate, Limit, Locked
+from plain_rules import ROOT, Alternatives, Atom, Case, Clause, Digit, Excluded, Facts, Gate, Limit, Locked
 from plain_rules import Matches, Need, NeedClause, NeedOf, Options, Outside, Parent, Rule, Shared, There, no, of_parent, yes
 from plain_solver import Solver
 from tools.texts import AnyAtom, BitAtom, Catalogue, Literal, MatchesAtom, OutsideAtom, Request, SharedAtom, Spec, Version
 from tools.texts import cases
 
-__all__ = ["PROGRAM", "Encoder", "Facts", "Options", "Outcome", "Turn", "Turns", "search"]
+__all__ = ["Encoder", "Facts", "Options", "Outcome", "Turn", "Turns", "search"]
 
 
 # ---- encoding

@@ -1,15 +1,13 @@
 #!/usr/bin/env python3
 """Compares what `resolve solve` answers with the plain search of plain_search.py, over generated pairs and kept ones.
 
-Usage: checks/search.py [PAIRS] [--seed N] [--like-the-program] [--program PATH]
+Usage: checks/search.py [PAIRS] [--seed N] [--program PATH]
        checks/search.py --kept [--program PATH]
        checks/search.py --rows
 Defaults: 1000 pairs, seed 1, crates/resolve/out/resolve (which `rt run` leaves).
 It counts the pairs whose entries, left-out wishes, named lines, message or steps differ from those of the search by the rules, and
-prints the smallest one. Then it counts for each option of the plain search how many answers that one alone changes. With
-`--like-the-program` the plain search goes all the program's other ways: each byte must then be equal, else the status is 1.
-With `--kept` it runs the examples of checks/search, which search/README.md describes. With `--rows` the plain search answers the
-rows of the gate, without a program: in the program's ways it must answer each as the row expects.
+prints the smallest one. Each byte must be equal, else the status is 1. With `--kept` it runs the examples of checks/search, which
+search/README.md describes. With `--rows` the plain search answers the rows of the gate, without a program: each as the row expects.
 """
 from __future__ import annotations
 
@@ -25,7 +23,7 @@ from typing import Iterator, Optional
 import rows
 from plain_message import message
 from plain_report import report
-from plain_search import PROGRAM, Facts, Options, Outcome, Turns
+from plain_search import Facts, Options, Outcome, Turns
 from solving import generated_texts
 from tools import texts
 from tools.texts import Catalogue, Install, LeftOut, Refused, Report, Request
@@ -224,14 +222,7 @@ def heading() -> str:
     return " " * 24 + "".join(f"{part:>10}" for part in (*PARTS, "answer"))
 
 
-def single_options() -> dict[str, Options]:
-    """For each of the program's other ways the rules with that one alone."""
-    rules = Options()
-    return {each.name: dataclasses.replace(rules, **{each.name: getattr(PROGRAM, each.name)})
-            for each in dataclasses.fields(Options) if getattr(PROGRAM, each.name) != getattr(rules, each.name)}
-
-
-def compare(pairs: list[tuple[str, Pair]], program: str, options: Options) -> tuple[dict[str, Counts], dict[str, int]]:
+def compare(pairs: list[tuple[str, Pair]], program: str) -> tuple[dict[str, Counts], dict[str, int]]:
     """The counts of the program beside the plain search, by the kind of pair, and the verdicts."""
     found: dict[str, Counts] = {}
     verdicts = {"install": 0, "refused": 0}
@@ -239,32 +230,20 @@ def compare(pairs: list[tuple[str, Pair]], program: str, options: Options) -> tu
         for kind, pair in pairs:
             answer = answered(program, pair, folder)
             verdicts["install" if isinstance(answer, Install) else "refused"] += 1
-            parts = differing(answer, report(*values_of(pair), options))
+            parts = differing(answer, report(*values_of(pair)))
             for name in (kind, "all"):
                 found.setdefault(name, Counts()).add(pair, parts)
     return found, verdicts
 
 
-def each_option(pairs: list[tuple[str, Pair]]) -> dict[str, Counts]:
-    """For each option how many answers by the rules it alone changes; and all of them together."""
-    options = {**single_options(), "all together": PROGRAM}
-    found = {name: Counts() for name in options}
-    for _, pair in pairs:
-        values = values_of(pair)
-        rules = report(*values)
-        for name, counts in found.items():
-            counts.add(pair, differing(rules, report(*values, options[name])))
-    return found
-
-
-def print_smallest(counts: Counts, program: str, options: Options) -> None:
+def print_smallest(counts: Counts, program: str) -> None:
     """The smallest differing pair with both answers."""
     if counts.smallest is None:
         return
     _, pair, parts = counts.smallest
     with tempfile.TemporaryDirectory() as folder:
         answer = texts.report_text(answered(program, pair, folder)).decode()
-    plain = texts.report_text(report(*values_of(pair), options)).decode()
+    plain = texts.report_text(report(*values_of(pair))).decode()
     print(f"\nthe smallest differing pair ({', '.join(parts)})")
     print(f"--- catalogue\n{pair[0]}--- request\n{pair[1]}--- the program\n{answer}--- the plain search\n{plain}", end="")
 
@@ -272,19 +251,13 @@ def print_smallest(counts: Counts, program: str, options: Options) -> None:
 def run_pairs(arguments: argparse.Namespace) -> int:
     """Compares over generated pairs; the status."""
     pairs = list(pairs_of(arguments.seed, arguments.pairs))
-    options = PROGRAM if arguments.like_the_program else Options()
-    found, verdicts = compare(pairs, arguments.program, options)
-    way = "that goes the program's ways" if arguments.like_the_program else "by the rules"
-    print(f"{len(pairs)} pairs, {verdicts['install']} installed, {verdicts['refused']} refused; differing from the search {way}:")
+    found, verdicts = compare(pairs, arguments.program)
+    print(f"{len(pairs)} pairs, {verdicts['install']} installed, {verdicts['refused']} refused; differing from the search by the rules:")
     print(heading())
     for name, counts in found.items():
         print(counts.row(name))
-    if not arguments.like_the_program:
-        print("\nanswers by the rules that change by one of the program's ways alone:\n" + heading())
-        for name, counts in each_option(pairs).items():
-            print(counts.row(name))
-    print_smallest(found["all"], arguments.program, options)
-    return 1 if arguments.like_the_program and any(found["all"].parts.values()) else 0
+    print_smallest(found["all"], arguments.program)
+    return 1 if any(found["all"].parts.values()) else 0
 
 
 # ---- kept examples
@@ -324,30 +297,26 @@ def faults_of(row: rows.Row, program: str, folder: str) -> list[str]:
     option, faults = row.text("option").decode(), []
     if not plain(row, Options()):
         faults.append("the search by the rules answers otherwise")
-    if option and plain(row, changed(Options(), option)) and plain(row, changed(PROGRAM, option)) == plain(row, PROGRAM):
+    if option and plain(row, changed(Options(), option)):
         faults.append(f"{option.strip()} changes nothing")
-    today = row.text("program").decode().strip()
-    is_same = plain(row, PROGRAM)
     if os.path.exists(program) and not {"asks", "setting"} & set(row.sections):
-        is_same = shown(row, answered(program, pair_of(row), folder), ())
-    if is_same != (today == "same"):
-        faults.append(f"the program answers {'as the rules say' if is_same else 'otherwise'}, and the example has `{today}`")
+        is_other = "program" in row.sections
+        if shown(row, answered(program, pair_of(row), folder), ()) == is_other:
+            faults.append(f"the program answers {'as the rules say' if is_other else 'otherwise'}")
     return faults
 
 
 def run_kept(program: str) -> int:
     """Runs the kept examples; the status."""
-    faulty, same, kept = 0, 0, rows.read_all(KEPT)
+    faulty, kept = 0, rows.read_all(KEPT)
     if not os.path.exists(program):
-        print(f"no program is at {program}; the plain search goes its ways instead")
+        print(f"no program is at {program}; only the plain search is run")
     with tempfile.TemporaryDirectory() as folder:
         for row in kept:
             faults = faults_of(row, program, folder)
-            today = row.text("program").decode().strip()
-            same += today == "same"
             faulty += bool(faults)
-            print(f"{today:10} {row.name}: {'; '.join(faults) or row.about}")
-    print(f"{len(kept)} examples, {same} of which the program answers as the rules say; {faulty} faults")
+            print(f"{row.name}: {'; '.join(faults) or row.about}")
+    print(f"{len(kept)} examples, {faulty} faults")
     return 1 if faulty else 0
 
 
@@ -362,9 +331,9 @@ def solved_rows() -> Iterator[rows.Row]:
             yield row
 
 
-def unmet(row: rows.Row, options: Options) -> list[str]:
+def unmet(row: rows.Row) -> list[str]:
     """The sections of a row that the plain search doesn't meet."""
-    value = report(*values_of(pair_of(row)), options)
+    value = report(*values_of(pair_of(row)))
     output, status = texts.report_text(value), 0 if isinstance(value, Install) else 1
     return [f"{row}: {name}" for name, wanted in row.sections.items()
             if name not in rows.INPUTS and name != "fault" and rows.came(name, output, status, wanted) != wanted]
@@ -392,11 +361,11 @@ def case_answer(turns: Turns, outcome: Outcome, counts_waiting: bool) -> list[st
     return [f"{version.package} {version.number}" for version in chosen] + left + waiting
 
 
-def unmet_case(title: str, sections: dict[str, list[str]], options: Options) -> list[str]:
+def unmet_case(title: str, sections: dict[str, list[str]]) -> list[str]:
     """The sections of a case that the plain search doesn't meet. A wish is barred by its clauses alone."""
     values = values_of(tuple("".join(line + "\n" for line in sections[part]) for part in ("catalogue", "request")))
     found: dict[str, list[str]] = {}
-    for name, given in (("asked without hint", changed(options, "hinted")), ("asked", options)):
+    for name, given in (("asked without hint", changed(Options(), "hinted")), ("asked", Options())):
         turns = Turns(Facts(*values, bars_wishes=False), given)
         outcome = turns.run()
         words = [question.split(" of ")[1].replace("=", " ") for question in outcome.questions]
@@ -408,14 +377,11 @@ def unmet_case(title: str, sections: dict[str, list[str]], options: Options) -> 
 
 def run_rows() -> int:
     """Runs the plain search over the rows of the gate; the status."""
-    faults: dict[str, list[str]] = {}
-    for name, options in (("by the rules", Options()), ("in the program's ways", PROGRAM)):
-        told = [unmet(row, options) for row in solved_rows()]
-        told += [unmet_case(title, sections, options) for title, sections in solver_cases()]
-        faults[name] = [line for lines in told for line in lines]
-        print(f"{name}: {len(told)} rows, {len(faults[name])} sections otherwise")
-        print("".join(f"    {line}\n" for line in faults[name]), end="")
-    return 1 if faults["in the program's ways"] else 0
+    told = [unmet(row) for row in solved_rows()] + [unmet_case(title, sections) for title, sections in solver_cases()]
+    faults = [line for lines in told for line in lines]
+    print(f"{len(told)} rows, {len(faults)} sections otherwise")
+    print("".join(f"    {line}\n" for line in faults), end="")
+    return 1 if faults else 0
 
 
 def main() -> int:
@@ -423,7 +389,6 @@ def main() -> int:
     parser = argparse.ArgumentParser(description=__doc__, formatter_class=argparse.RawDescriptionHelpFormatter)
     parser.add_argument("pairs", nargs="?", type=int, default=1000)
     parser.add_argument("--seed", type=int, default=1)
-    parser.add_argument("--like-the-program", action="store_true")
     parser.add_argument("--kept", action="store_true")
     parser.add_argument("--rows", action="store_true")
     parser.add_argument("--program", default=os.path.join(HERE, "../crates/resolve/out/resolve"))
