@@ -18,7 +18,7 @@ import time
 
 KINDS = ("proof", "tests", "edits", "program")
 TICKS = os.sysconf("SC_CLK_TCK")
-GOAL = 75  # minutes by the clock on four processors, past which a run reports it
+GOAL = 60  # minutes by the clock on four processors, past which a run reports it
 
 
 def kind_of(words: list[str]) -> str:

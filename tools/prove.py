@@ -4,8 +4,9 @@
 Usage: tools/prove.py [--anew] [CRATE]     (default: resolve)
 
 `rt run` proves one library after the other. This makes a copy of the crate with what lies below it, without wrong bodies and without
-the crates of tests, and runs the gate (`rt ci`) over the copy. As many proofs run side by side as there are processors with 3 GB each.
+the crates of tests, and runs the gate (`rt ci`) over the copy. As many proofs run side by side as there are processors with 4 GB each.
 The proof that the longest chain of others waits for has two of them, or all where it is alone; how long a chain is, tools/minutes.txt says.
+Of four processors the others never take those two. `.ci/run` runs the whole gate in this order (`--gate`).
 RT_JOBS may name a number of proofs; then each has one processor.
 What this machine has proved before is kept, and isn't proved again; with `--anew` it is. The proved program is then in
 crates/CRATE/out, beside its object file.
@@ -20,13 +21,14 @@ import sys
 import tempfile
 import time
 from concurrent.futures import FIRST_COMPLETED, Future, ThreadPoolExecutor, wait
-from typing import Any, Callable, Dict, List, Sequence, Set, Tuple
+from typing import Any, Callable, Dict, Iterator, List, Sequence, Set, Tuple
 
 TOP = os.path.dirname(os.path.dirname(os.path.abspath(__file__)))
 PARTS = ("src", "specs", "proofs", "c", "data")
 FILES = ("stdin", "stdout", "args", "status")
-MEMORY = 3_000_000_000  # bytes of a proof by one processor
+MEMORY = 4_000_000_000  # bytes of a proof by one processor
 MOST = 4  # processors of one proof
+KEPT = 2  # processors that the longest chain keeps, where there are as many for the others
 LINES = 1500  # lines that are proved in a minute, where no run is known
 
 # what it waits for, its lines, its memory, and what does it with so many processors
@@ -95,6 +97,27 @@ def chains(tasks: Dict[Any, Task], weights: Dict[Any, float]) -> Dict[Any, float
     return {key: chain(key) for key in tasks}
 
 
+def next_tasks(ready: Sequence[Any], running: Dict[Any, int], chain: Dict[Any, float], lanes: int, most: int) -> Iterator[Tuple[Any, int]]:
+    """Those of the ready tasks that begin now, each with its processors. The task that begins the longest chain keeps `KEPT` of them,
+    so that the next one of its chain has them too. The others share the rest."""
+    longest = max(chain[key] for key in (*ready, *running))
+    kept = min(KEPT, lanes // 2) if longest and most > 1 else 0
+    idle = lanes - sum(running.values())
+    others = sum(jobs for key, jobs in running.items() if chain[key] < longest)
+    for at, key in enumerate(ready):
+        jobs = 1
+        if chain[key] == longest > 0 and most > 1:
+            jobs = max(1, min(most, idle, max(kept, idle - (len(ready) - at - 1))))
+        elif others >= lanes - kept:
+            continue
+        else:
+            others += 1
+        if jobs > idle:
+            break
+        idle -= jobs
+        yield key, jobs
+
+
 def side_by_side(tasks: Dict[Any, Task], chain: Dict[Any, float], lanes: int, most: int) -> Dict[Any, Any]:
     """Does each task once those that it waits for are done, those with the longest chain first; what each gave."""
     left = sorted(tasks, key=lambda key: -chain[key])
@@ -103,12 +126,7 @@ def side_by_side(tasks: Dict[Any, Task], chain: Dict[Any, float], lanes: int, mo
     with ThreadPoolExecutor(lanes) as pool:
         while left or running:
             ready = [key for key in left if all(below in given for below in tasks[key][0])]
-            for at, key in enumerate(ready):
-                idle = lanes - sum(jobs for _, jobs in running.values())
-                if not idle:
-                    break
-                is_longest = all(chain[key] >= chain[other] for other, _ in running.values())
-                jobs = min(most, idle, max(2, idle // (len(ready) - at))) if is_longest else 1
+            for key, jobs in list(next_tasks(ready, dict(running.values()), chain, lanes, most)):
                 left.remove(key)
                 running[pool.submit(tasks[key][3], given, jobs)] = key, jobs
             for future in wait(running, return_when=FIRST_COMPLETED).done:
@@ -117,7 +135,7 @@ def side_by_side(tasks: Dict[Any, Task], chain: Dict[Any, float], lanes: int, mo
 
 
 def gate(folder: str, flags: List[str]) -> int:
-    """Runs `rt ci` in a folder. rt gives each proof one processor as long as others are ready, and the longest chain decides."""
+    """Runs `rt ci` in a folder. By itself rt gives each proof one processor as long as others are ready, and the longest chain decides."""
     os.chdir(folder)
     path = os.path.realpath(shutil.which("rt") or "/opt/rattle/bin/rt")
     loader = importlib.machinery.SourceFileLoader("rt_main", path)

@@ -4,7 +4,7 @@ import tempfile
 import unittest
 from typing import List, Tuple
 
-from tools.prove import TOP, Task, chains, closure, copy, lines_of, minutes, side_by_side
+from tools.prove import TOP, Task, chains, closure, copy, lines_of, minutes, next_tasks, side_by_side
 
 LISTED = """# the lowest
 low:
@@ -59,6 +59,17 @@ class Order(unittest.TestCase):
     def test_the_longest_chain_is_first_and_has_two(self) -> None:
         done = dict(self.run_by(3, 4))
         self.assertEqual(done, {"low": 3, "long": 2, "short": 1, "top": 3})
+
+    def test_the_longest_chain_keeps_two(self) -> None:
+        chain = {"long": 5.0, "next": 4.0, "short": 1.0, "edit": 0.0, "other": 0.0, "last": 0.0}
+        self.assertEqual(list(next_tasks(["short", "edit", "other"], {"long": 2}, chain, 4, 4)), [("short", 1), ("edit", 1)])
+        self.assertEqual(list(next_tasks(["next", "last"], {"short": 1, "edit": 1}, chain, 4, 4)), [("next", 2)])
+        self.assertEqual(list(next_tasks(["edit", "other", "last"], {}, chain, 4, 4)), [("edit", 1), ("other", 1), ("last", 1)])
+
+    def test_two_processors_are_shared(self) -> None:
+        chain = {"long": 5.0, "short": 1.0, "edit": 0.0}
+        self.assertEqual(list(next_tasks(["long", "short", "edit"], {}, chain, 2, 4)), [("long", 1), ("short", 1)])
+        self.assertEqual(list(next_tasks(["long"], {}, chain, 2, 4)), [("long", 2)])
 
     def test_one_processor_each(self) -> None:
         self.assertEqual(self.run_by(1, 1), [("low", 1), ("long", 1), ("short", 1), ("top", 1)])
