@@ -98,10 +98,11 @@ def chains(tasks: Dict[Any, Task], weights: Dict[Any, float]) -> Dict[Any, float
 
 
 def next_tasks(ready: Sequence[Any], running: Dict[Any, int], chain: Dict[Any, float], lanes: int, most: int) -> Iterator[Tuple[Any, int]]:
-    """Those of the ready tasks that begin now, each with its processors. The task that begins the longest chain keeps `KEPT` of them,
-    so that the next one of its chain has them too. The others share the rest."""
+    """Those of the ready tasks that begin now, each with its processors. The task that begins the longest chain has `KEPT` of them, and
+    the others share the rest. So the next task of that chain has as many."""
     longest = max(chain[key] for key in (*ready, *running))
-    kept = min(KEPT, lanes // 2) if longest and most > 1 else 0
+    held = sum(jobs for key, jobs in running.items() if chain[key] == longest)
+    kept = min(held or KEPT, KEPT, lanes // 2) if longest and most > 1 else 0
     idle = lanes - sum(running.values())
     others = sum(jobs for key, jobs in running.items() if chain[key] < longest)
     for at, key in enumerate(ready):
