@@ -209,11 +209,16 @@ def load_catalogue(path: str) -> CatalogueFile:
         return CatalogueFile(path, data, catalogue, read_dictionary(catalogue))
 
 
+def load_request(path: str, catalogue: Catalogue) -> Request:
+    """Reads a request over a catalogue; raises Failure with file and line."""
+    with progress(f"reading {path}"), of_file(path):
+        return texts.read_request(read_bytes(path), catalogue)
+
+
 def load(catalogue_path: str, request_path: str, report_path: str) -> Bundle:
     """Reads the three files; raises Failure with file and line."""
     file = load_catalogue(catalogue_path)
-    with progress(f"reading {request_path}"), of_file(request_path):
-        request = texts.read_request(read_bytes(request_path), file.catalogue)
+    request = load_request(request_path, file.catalogue)
     with progress(f"reading {report_path}"), of_file(report_path):
         report = texts.read_report(read_bytes(report_path))
         check_fit(file.catalogue, request, report)

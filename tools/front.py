@@ -9,7 +9,7 @@ from typing import Callable, Optional, Sequence
 
 from tools import texts, view
 from tools.apt_solver import main as solve_for_apt
-from tools.bundle import CatalogueFile, load, load_catalogue
+from tools.bundle import CatalogueFile, load, load_catalogue, load_request
 from tools.debian import apt_lists, import_debian, native_architecture
 from tools.files import Failure, of_file, progress, read_bytes, run_program, write_bytes
 from tools.imports import add_imports
@@ -18,15 +18,42 @@ from tools.lock import wish_lines, with_lines, without_favours
 from tools.lrat import ABOUT as ABOUT_LRAT
 from tools.lrat import add_arguments, write_export
 
-ABOUT = """What people need around `resolve`: lock files, and reports to look at.
+ABOUT = """What people need around `resolve`: lock files, reports to look at, and the reason of a fault.
 
   resolve solve app.catalogue app.request > app.report
+  resolve-tools check app.catalogue app.request
   resolve-tools lock write app.catalogue app.report --out app.lock
   resolve-tools view tree app.catalogue app.request app.report"""
 STATUSES = """exit status: 0 done (install, yes); 1 no (a version is gone, a lock or report that doesn't hold, a view that
 the report hasn't); 2 a fault (of a file, of the command line). Errors are `tools: FILE: line N: reason`, and then
 nothing is written. `-` as a file is standard input."""
 Handler = Callable[[argparse.Namespace], Optional[bytes]]
+
+
+# ---- faults
+
+
+def check(args: argparse.Namespace) -> bytes:
+    """`check`: a fault is raised by the readers."""
+    if args.report:
+        load(args.catalogue, args.request, args.report)
+        return b"no fault\n"
+    file = load_catalogue(args.catalogue)
+    if args.request:
+        load_request(args.request, file.catalogue)
+    return b"no fault\n"
+
+
+def add_check(commands: argparse._SubParsersAction) -> None:
+    """The reason of a fault."""
+    about = "the first fault of some texts, with its reason (docs/FORMATS.md)"
+    more = "The dictionary of the catalogue is read too. Of a report it shows a faulty form, and lines and versions that aren't there; "
+    more += "whether it is right is for `resolve judge` to decide."
+    each = commands.add_parser("check", help=about, description=f"{about[0].upper()}{about[1:]}. {more}", epilog=STATUSES)
+    each.set_defaults(handle=check)
+    each.add_argument("catalogue", metavar="CATALOGUE")
+    each.add_argument("request", metavar="REQUEST", nargs="?")
+    each.add_argument("report", metavar="REPORT", nargs="?")
 
 
 # ---- lock
@@ -296,6 +323,7 @@ def make_parser() -> argparse.ArgumentParser:
     form = argparse.RawDescriptionHelpFormatter
     parser = argparse.ArgumentParser(prog="resolve-tools", description=ABOUT, epilog=STATUSES, formatter_class=form)
     commands = parser.add_subparsers(dest="command", metavar="COMMAND", required=True)
+    add_check(commands)
     add_lock(commands)
     add_views(commands)
     add_export(commands)

@@ -314,6 +314,17 @@ class Front(FolderCase):
                 self.assertRegex(error, f"^tools: {re.escape(self.path(name))}: line {line}: [^\n]+\n$")
                 self.assertFalse(os.path.exists(out))
 
+    def test_check_gives_the_reason_of_a_fault(self):
+        good = [data_path(f"app.{name}") for name in ("catalogue", "request", "report")]
+        for count in (1, 2, 3):
+            self.assertEqual(run("check", *good[:count]), (0, b"no fault\n", ""))
+        catalogue, request = self.write("c", "version a 1\nneeds b 2..2\n"), self.write("r", "needs app\nwish none 1\n")
+        self.assert_fault(f"{catalogue}: line 2: `2..2` is an empty span", "check", catalogue)
+        self.assert_fault(f"{catalogue}: line 2: `2..2` is an empty span", "check", catalogue, request)
+        self.assertRegex(run("check", good[0], request)[2], f"^tools: {re.escape(request)}: line 2: [^\n]+\n$")
+        self.assert_fault(f"{good[1]}: line 1: a report begins with `install` or `refused`, not `needs app`", "check", *good[:2], good[1])
+        self.assert_fault(f"{self.path('none')}: can't be read: No such file or directory", "check", self.path("none"))
+
     def test_a_report_for_another_catalogue(self):
         other = data_path("app.catalogue"), data_path("app.request"), data_path("wishes.report")
         self.assert_fault(f"{other[2]}: line 2: the catalogue doesn't list editor=5", "view", "explain", *other)
