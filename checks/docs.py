@@ -4,18 +4,27 @@
 docs.py                      lists what is wrong: a module or a public call that the README of its room lacks, an item of its door
                              too; a crate that `crates.txt` lists for another that does not name it, or the reverse; a file with
                              a lock that CHANGING.md lacks; a name, file or crate that is missing, a dead link, a count of AUDIT.md
-                             or of the rows in CLAIMS.md, the example of README.md. Status 1 where anything is.
+                             or of the rows in CLAIMS.md, the example of README.md; a command of `resolve-tools` that it doesn't
+                             take. Status 1 where anything is.
 docs.py --closure CRATE/SPEC ..  lists the files of specs/ that these import, all the way down, with their lines.
 """
+import argparse
+import contextlib
 import glob
+import io
 import os
 import re
+import shlex
 import sys
-from typing import Dict, Iterator, List, Set, Tuple
+from typing import Dict, Iterator, List, Optional, Set, Tuple
 
 ROOT = os.path.dirname(os.path.dirname(os.path.abspath(__file__)))
+sys.path.insert(0, ROOT)
+
+from tools.front import make_parser  # noqa: E402
+
 EXAMPLE = "checks/calls/example.rt.txt"
-PAGES = ("README.md", "CONTRIBUTING.md", "docs/*.md", "crates/*/README.md")
+PAGES = ("README.md", "CONTRIBUTING.md", "docs/*.md", "crates/*/README.md", "bindings/*/README.md")
 TESTS = "Tests"
 ROW_KINDS = {
     "installs": ("install", "list"), "refusals": ("refuse",), "texts": ("fault", "long", "conditions"),
@@ -301,6 +310,52 @@ def example_faults() -> Iterator[str]:
         yield f"README.md: the example isn't that of {EXAMPLE}"
 
 
+# ---- the commands of resolve-tools
+
+def actions(parser: argparse.ArgumentParser) -> Dict[str, argparse.ArgumentParser]:
+    """The commands below a parser."""
+    return next((a.choices for a in parser._actions if isinstance(a, argparse._SubParsersAction)), {})
+
+
+def command_fault(words: List[str]) -> Optional[str]:
+    """Why a parser doesn't know these words: a command, an action, or an option."""
+    parser = make_parser()
+    while words and actions(parser):
+        if words[0] not in actions(parser):
+            return f"no command {words[0]}"
+        parser, words = actions(parser)[words[0]], words[1:]
+    options = {option for word in words for option in re.findall(r"(?<![\w-])--[\w-]+", word)}
+    return next((f"no option {option}" for option in sorted(options - set(parser._option_string_actions))), None)
+
+
+def is_taken(words: List[str]) -> bool:
+    """Whether the command line is whole. Nothing is run."""
+    with contextlib.redirect_stderr(io.StringIO()), contextlib.redirect_stdout(io.StringIO()):
+        try:
+            make_parser().parse_args(words)
+        except SystemExit as end:
+            return not end.code
+    return True
+
+
+def command_faults(page: str) -> Iterator[str]:
+    """Commands of a page that `resolve-tools` doesn't take. In a block they are whole; in a line they may leave words out."""
+    text = read(page).replace("\\\n", " ")
+    for block in re.findall(r"^```\w*\n(.*?)^```", text, flags=re.M | re.S):
+        for line in re.findall(r"^(?:\$ )?(?:tools/)?resolve-tools (.*)$", block, re.M):
+            if not is_taken(shlex.split(line.split(" > ")[0])):
+                yield f"{page}: resolve-tools doesn't take `{line}`"
+    named = actions(make_parser())
+    for item in quoted(text):
+        words = item.replace("tools/resolve-tools", "resolve-tools").split()
+        whole = words[:1] == ["resolve-tools"]
+        words = words[1:] if whole else words
+        if words and words[0] != "NAME" and (whole or (len(words) > 1 and words[0] in named and words[1] in actions(named[words[0]]))):
+            fault = command_fault(words)
+            if fault:
+                yield f"{page}: resolve-tools has {fault}: `{item}`"
+
+
 def faults() -> Iterator[str]:
     """All that is wrong."""
     yield from crate_faults()
@@ -315,6 +370,7 @@ def faults() -> Iterator[str]:
     for page in pages():
         yield from name_faults(page, words)
         yield from import_faults(page)
+        yield from command_faults(page)
         if page.startswith("crates/") or os.path.basename(page) in ("ARCHITECTURE.md", "CHANGING.md", "CLAIMS.md", "GLOSSARY.md", "AUDIT.md", "PROOFS.md", "WALK.md"):
             yield from word_faults(page, words, in_libraries)
 
