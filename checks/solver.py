@@ -16,7 +16,7 @@ import sys
 import tempfile
 
 from calls import copy_with
-from plain_judge import Judge, holds
+from plain_judge import court_of, holds
 from plain_rules import Facts
 from solving import generated_texts
 from tools import texts
@@ -199,7 +199,7 @@ def barred_wishes(court):
         if isinstance(placed.line, texts.ExcludeLine):
             barred.add(placed.line.version)
         if isinstance(placed.line, texts.LockLine):
-            barred |= {v for v in court.listed if v.package == placed.line.version.package and v != placed.line.version}
+            barred |= {v for v in court.catalogue.listed if v.package == placed.line.version.package and v != placed.line.version}
     return barred
 
 
@@ -212,7 +212,7 @@ def report_steps(court, report):
 
 def compare(pair, answer_lines, output):
     catalogue, request = (text.encode() for text in pair)
-    court = Judge(catalogue, request)
+    court = court_of(catalogue, request)
     answer = Answer(answer_lines, court.catalogue)
     report = texts.read_report(output)
     verdict = "refused" if isinstance(report, texts.Refused) else "install"

@@ -11,14 +11,15 @@ from tools import texts, view
 from tools.apt_solver import main as solve_for_apt
 from tools.bundle import CatalogueFile, load, load_catalogue, load_request
 from tools.debian import apt_lists, import_debian, native_architecture
-from tools.files import Failure, of_file, progress, read_bytes, run_program, write_bytes
+from tools.files import Failure, of_file, progress, read_bytes, run_program, shown_path, write_bytes
 from tools.imports import add_imports
+from tools.judge import refusal
 from tools.lock import Lock, check_lock, lock_of, lock_text, locked_versions, mark_lines, plan_lines, read_lock
 from tools.lock import wish_lines, with_lines, without_favours
 from tools.lrat import ABOUT as ABOUT_LRAT
 from tools.lrat import add_arguments, write_export
 
-ABOUT = """What people need around `resolve`: lock files, reports to look at, and the reason of a fault.
+ABOUT = """What people need around `resolve`: lock files, reports to look at, the reason of a fault or of a no.
 
   resolve solve app.catalogue app.request > app.report
   resolve-tools check app.catalogue app.request
@@ -34,22 +35,25 @@ Handler = Callable[[argparse.Namespace], Optional[bytes]]
 
 
 def check(args: argparse.Namespace) -> bytes:
-    """`check`: a fault is raised by the readers."""
-    if args.report:
-        load(args.catalogue, args.request, args.report)
-        return b"no fault\n"
+    """`check`: the readers raise the faults of the texts."""
     file = load_catalogue(args.catalogue)
-    if args.request:
-        load_request(args.request, file.catalogue)
+    if not args.request:
+        return b"no fault\n"
+    request = load_request(args.request, file.catalogue)
+    if args.report:
+        with progress(f"judging {args.report}"):
+            line, reason = refusal(file.catalogue, request, read_bytes(args.report))
+        if line:
+            raise Failure(shown_path(args.report), line, reason, 1)
     return b"no fault\n"
 
 
 def add_check(commands: argparse._SubParsersAction) -> None:
-    """The reason of a fault."""
-    about = "the first fault of some texts, with its reason (docs/FORMATS.md)"
-    more = "The dictionary of the catalogue is read too. Of a report it shows a faulty form, and lines and versions that aren't there; "
-    more += "whether it is right is for `resolve judge` to decide."
-    each = commands.add_parser("check", help=about, description=f"{about[0].upper()}{about[1:]}. {more}", epilog=STATUSES)
+    """The reason of a fault, or of a no."""
+    about = "why a text is faulty (docs/FORMATS.md), or a report isn't right (docs/JUDGE.md): the first line, with a reason"
+    more = "The dictionary of the catalogue is read too. A report is judged by a plain program without proofs, which is slow where the "
+    more += "report has many steps; `resolve judge` is the one to believe."
+    each = commands.add_parser("check", help=about, description=f"Says {about}. {more}", epilog=STATUSES)
     each.set_defaults(handle=check)
     each.add_argument("catalogue", metavar="CATALOGUE")
     each.add_argument("request", metavar="REQUEST", nargs="?")

@@ -322,7 +322,9 @@ class Front(FolderCase):
         self.assert_fault(f"{catalogue}: line 2: `2..2` is an empty span", "check", catalogue)
         self.assert_fault(f"{catalogue}: line 2: `2..2` is an empty span", "check", catalogue, request)
         self.assertRegex(run("check", good[0], request)[2], f"^tools: {re.escape(request)}: line 2: [^\n]+\n$")
-        self.assert_fault(f"{good[1]}: line 1: a report begins with `install` or `refused`, not `needs app`", "check", *good[:2], good[1])
+        report = self.write("x", "install\napp=2 for request line 1\n")
+        no = f"tools: {report}: line 3: the entries don't obey line 2 of the request: `needs http 3..4`\n"
+        self.assertEqual(run("check", *good[:2], report), (1, b"", no))
         self.assert_fault(f"{self.path('none')}: can't be read: No such file or directory", "check", self.path("none"))
 
     def test_a_report_for_another_catalogue(self):
