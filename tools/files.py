@@ -5,6 +5,7 @@ A file is written whole or not at all: beside its place first, and then moved th
 from __future__ import annotations
 
 import os
+import shutil
 import subprocess
 import sys
 import tempfile
@@ -93,12 +94,15 @@ def progress(what: str) -> Iterator[None]:
 
 
 def find_program(given: Optional[str]) -> str:
-    """The program: as given, or by the variable RESOLVE, or as `rt run` leaves it below the top."""
-    path = given or os.environ.get("RESOLVE") or os.path.join(TOP, "crates", "resolve", "out", "resolve")
-    if not os.access(path, os.X_OK) or os.path.isdir(path):
-        how = "`--resolve PATH` or the variable RESOLVE names it, else crates/resolve/out/resolve is taken"
-        raise Failure(path, None, f"isn't a program that can be run ({how})")
-    return os.path.abspath(path)
+    """The program: as given, or by the variable RESOLVE; else as `rt run` leaves it below the top, that of a release, or one on PATH."""
+    named = given or os.environ.get("RESOLVE")
+    below = [os.path.join(TOP, "crates", "resolve", "out", "resolve"), os.path.join(TOP, "bin", "resolve")]
+    places = [named] if named else [*below, shutil.which("resolve") or below[0]]
+    for path in places:
+        if os.access(path, os.X_OK) and not os.path.isdir(path):
+            return os.path.abspath(path)
+    how = "`--resolve PATH` or the variable RESOLVE names it; else it is crates/resolve/out/resolve, bin/resolve of a release, or on PATH"
+    raise Failure(places[0], None, f"isn't a program that can be run ({how})")
 
 
 def run_program(given: Optional[str], *arguments: str) -> tuple[int, bytes]:

@@ -1,6 +1,7 @@
 """Lock files: what is written, what they become over later catalogues, and every error with its file and line."""
 import os
 import stat
+from unittest import mock
 
 from tools.lock import Lock, LockEntry, lock_text, read_lock
 from tools.tests.base import FolderCase, data_bytes, data_path, run
@@ -212,6 +213,19 @@ class Locks(FolderCase):
         edited = self.write("edited.lock", self.text.replace(b"13.1.0-2", b"12.2.0-14+deb12u1"))
         wanted = f"{edited}: line 6: the report has `libstdc++6 13.1.0-2 for app 1.1-1 line 10`"
         self.assert_fault(wanted, "lock", "check", edited, self.catalogue, request, self.report, status=1)
-        how = "(`--resolve PATH` or the variable RESOLVE names it, else crates/resolve/out/resolve is taken)"
+        how = "(`--resolve PATH` or the variable RESOLVE names it; else it is crates/resolve/out/resolve, bin/resolve of a release, or on PATH)"
         wanted = f"{no_program}: isn't a program that can be run {how}"
         self.assert_fault(wanted, "lock", "check", self.lock, self.catalogue, request, self.report, "--resolve", no_program)
+
+    def test_where_the_program_is_found(self):
+        files = ("lock", "check", self.lock, self.catalogue, data_path("debian.request"), self.report)
+        found = (0, b"yes: 3 entries, and the report is judged right\n", "")
+        os.mkdir(self.path("bin"))
+        os.rename(self.program("yes", 0), self.path("bin/resolve"))
+        with mock.patch("tools.files.TOP", self.path("none")):
+            self.assertEqual(run(*files, environment={"RESOLVE": self.path("bin/resolve"), "PATH": ""})[:2], found[:2])
+            self.assertEqual(run(*files, environment={"RESOLVE": "", "PATH": self.path("bin")}), found)
+            self.assertEqual(run(*files, environment={"RESOLVE": "", "PATH": ""})[0], 2)
+        with mock.patch("tools.files.TOP", self.folder):
+            self.assertEqual(run(*files, environment={"RESOLVE": "", "PATH": ""}), found)
+            self.assertEqual(run(*files, environment={"RESOLVE": self.path("none"), "PATH": ""})[0], 2)
