@@ -26,7 +26,7 @@ trap 'rm -rf "$work"' EXIT
 top=$work/$name
 mkdir -p "$top/bin" "$top/lib" "$top/include" "$top/share/man/man1"
 
-git archive HEAD README.md LICENSE NOTICE docs tools bindings examples | tar -x -C "$top"
+git archive HEAD README.md LICENSE NOTICE docs tools bindings examples checks/lrat_checker.py | tar -x -C "$top"
 mv "$top/docs/resolve.1" "$top/share/man/man1/resolve.1"
 cp bindings/c/resolve.h "$top/include/resolve.h"
 bindings/archives.sh "$top/lib"
