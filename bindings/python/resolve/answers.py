@@ -40,8 +40,12 @@ class Installed:
 
     @property
     def versions(self) -> dict[str, int]:
-        """The number of each package's version."""
-        return {entry.package: entry.number for entry in self.entries}
+        """The number of each package's version. Of a package that is marked `many` there may be several: then ValueError, and `entries`
+        has them."""
+        found = {entry.package: entry.number for entry in self.entries}
+        if len(found) < len(self.entries):
+            raise ValueError("a package has several versions: `entries` has them")
+        return found
 
 
 @dataclass(frozen=True)

@@ -44,6 +44,12 @@ class Examples(unittest.TestCase):
         self.assertEqual(answer.left_out, (LeftOut("vim-keys", 3, 3, 2), LeftOut("old-theme", 1, 4, 4)))
         self.assertEqual(len(answer.steps), 4)
 
+    def test_several_versions(self):
+        answer = solve(example("majors.catalogue"), example("majors.request"))
+        self.assertIsInstance(answer, Installed)
+        self.assertEqual([entry.number for entry in answer.entries if entry.package == "rand"], [805, 902])
+        self.assertRaises(ValueError, lambda: answer.versions)
+
     def test_faulty(self):
         self.assertEqual(solve(b"version a 1\nversion a 1\n", b""), Faulty(b"fault at catalogue line 2\n", "catalogue", 2))
         self.assertEqual(judge(b"", b"needs  a\n", b""), Faulty(b"fault at request line 1\n", "request", 1))
