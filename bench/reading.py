@@ -3,8 +3,9 @@
 
 Usage: bench/reading.py [PATH OF THE PROGRAM]   (default: crates/resolve/out/resolve, which `rt run` leaves)
 With a request that is faulty the program reads the catalogue, and says so: that is the time of reading. With an empty request it makes
-the provider too. Prints tables for docs/BENCHMARKS.md, the second one with instructions a line by valgrind's callgrind, if that is there:
-the difference of two lengths, over as many lines. Files are made anew in a temporary folder from a fixed seed.
+the provider too. Prints tables for docs/BENCHMARKS.md. By valgrind's callgrind, if that is there, the second one has instructions a line:
+the difference of two lengths, over as many lines. The third one has them by kinds of lines: what reading takes with one such line more
+for each version, less what it takes without them. Files are made anew in a temporary folder from a fixed seed.
 """
 import os
 import random
@@ -26,6 +27,7 @@ def write(path, lines, most):
                 return count
             out.write(line + "\n")
             count += 1
+    return count
 
 
 def many_packages():
@@ -70,6 +72,28 @@ def mixed():
 CATALOGUES = (("100,000 packages", many_packages), ("one package", one_package), ("mixed", mixed))
 
 
+PACKAGES = 10_000  # of the catalogues by kinds: each has two versions
+OF_VERSIONS = {
+    "version": "version q{p} {v}", "needs, one name": "needs p{o}", "needs, a span": "needs p{o} 1..2", "needs, two names": "needs p{o} | p{t}",
+    "needs, a condition": "needs p{o} if p{t}", "limits": "limits p{o} 1..2", "unknown": "unknown gone", "exclude": "exclude p{p} {v} old",
+    "a comment": "# of p{p}", "an empty line": "",
+}
+OF_PACKAGES = {"lock": "lock p{p} 1", "favour": "favour p{p} 1", "many": "many q{p}"}
+
+
+def of_kind(kind):
+    """Packages of two versions, with a line of this kind below each version, or below each package; none has no such line."""
+    rng = random.Random(9)
+    for package in range(PACKAGES):
+        for number in (1, 2):
+            words = {"p": package, "v": number, "o": rng.randrange(PACKAGES), "t": rng.randrange(PACKAGES)}
+            yield f"version p{package} {number}"
+            if kind in OF_VERSIONS:
+                yield OF_VERSIONS[kind].format(**words)
+        if kind in OF_PACKAGES:
+            yield OF_PACKAGES[kind].format(**words)
+
+
 class Commands:
     """What is measured over a catalogue."""
 
@@ -104,6 +128,15 @@ def instructions(name, lines, commands):
     return f"| {name} | " + " | ".join(f"{count:,.0f}" for count in each) + " |"
 
 
+def by_kinds(commands):
+    """The lines of the third table."""
+    base = write(commands.catalogue, of_kind(None), SIZE)
+    without = measure.instructions(commands.read)
+    for kind in (*OF_VERSIONS, *OF_PACKAGES):
+        lines = write(commands.catalogue, of_kind(kind), SIZE) - base
+        yield f"| {kind} | {(measure.instructions(commands.read) - without) / lines:,.0f} |"
+
+
 def main():
     """Prints the tables."""
     program = measure.program(__doc__)
@@ -121,6 +154,9 @@ def main():
         print("\n| instructions a line | awk | reading | and provider |\n|---|---|---|---|")
         for name, lines in CATALOGUES:
             print(instructions(name, lines, commands), flush=True)
+        print("\n| one line more | instructions |\n|---|---|")
+        for line in by_kinds(commands):
+            print(line, flush=True)
 
 
 if __name__ == "__main__":
