@@ -6,7 +6,7 @@ A link with the name of the solver in a folder is enough, and nothing is install
     ln -s PATH/tools/apt_solver.py DIR/resolve
     apt-get -s -o Dir::Bin::solvers::=DIR --solver resolve install gimp
 
-The program `resolve` is named by the variable RESOLVE, or lies where `rt run` leaves it.
+The program `resolve` is that of the checkout or the release, or one on PATH; the variable RESOLVE names another.
 """
 from __future__ import annotations
 
