@@ -28,7 +28,7 @@ import resolve  # noqa: E402
 
 ENDINGS = {b"cannot read\n": 3, b"too long\n": 4, b"no memory\n": 5, b"no ids\n": 6}
 SMALL = 3_000
-EXAMPLES = [("app", "app"), ("app", "conflict"), ("locked", "locked"), ("wishes", "wishes")]
+EXAMPLES = [("app", "app"), ("app", "conflict"), ("locked", "locked"), ("majors", "majors"), ("wishes", "wishes")]
 
 
 def must(test, what, *details):

@@ -36,7 +36,7 @@ from tools.lrat import Export, export
 from tools.texts import Atom, BitAtom, Catalogue, Install, LeftOut, Report, Request, Step, Version
 from tools.texts import read_catalogue, read_report, read_request
 
-EXAMPLES = [("app", "app"), ("app", "conflict"), ("locked", "locked"), ("wishes", "wishes")]
+EXAMPLES = [("app", "app"), ("app", "conflict"), ("locked", "locked"), ("majors", "majors"), ("wishes", "wishes")]
 FAULTS = ("a lost clause", "a turned sign", "another bit")
 
 
