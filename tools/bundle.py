@@ -14,7 +14,7 @@ from tools.catalogue import Catalogue, Line, Placed, Request, line_text
 from tools.dictionary import Dictionary, RealSpelling, read_dictionary
 from tools.files import of_file, progress, read_bytes
 from tools.reports import Install, Refused, Report, Step
-from tools.words import PLAIN, Bad, Fault, Spec, Spelling, Version, specs_text
+from tools.words import PLAIN, Bad, Fault, Spec, Spelling, Version, quoted, specs_text
 
 
 @dataclass(frozen=True)
@@ -117,7 +117,7 @@ class Fit:
         if number > len(placed):
             raise Bad(f"the {text} has no line {number}")
         if not isinstance(placed[number - 1].line, kinds):
-            raise Bad(f"line {number} of the {text} says something else: `{line_text(placed[number - 1].line)[:60]}`")
+            raise Bad(f"line {number} of the {text} says something else: {quoted(line_text(placed[number - 1].line))}")
         return placed[number - 1]
 
     def place(self, place: Optional[Version], number: int, kind: type) -> Line:
@@ -136,7 +136,7 @@ class Fit:
         if isinstance(answer, texts.Entry):
             line = self.place(answer.place, answer.line, texts.NeedsLine)
             if not any(spec.matches(answer.version) for spec in line.alternatives):
-                raise Bad(f"its line asks for something else than {answer.version}: `{line_text(line)[:60]}`")
+                raise Bad(f"its line asks for something else than {answer.version}: {quoted(line_text(line))}")
         elif self.line("request", answer.line, texts.WishLine).line.version != answer.version:
             raise Bad(f"line {answer.line} of the request wishes for another version")
 

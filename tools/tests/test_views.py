@@ -119,6 +119,14 @@ class Views(FolderCase):
         self.assertIn("\x1b[31m├─ the constraint libstdc++6 11.3.0-1 cannot be fulfilled\x1b[0m\n", shown)
         self.assertNotIn("\x1b", self.view("message", HELD))
 
+    def test_a_hostile_line_can_not_drive_the_terminal(self):
+        request = self.write("r", b"needs app\n# \x1b[2J\xff\n")
+        report = self.write("x", "install\napp=2 for request line 2\n")
+        for command in (["view", "tree"], ["check"]):
+            error = run(*command, data_path("app.catalogue"), request, report)[2]
+            self.assertRegex(error, "^tools: [^\n]*: line 2: line 2 of the request [^\n]*`#[^\n]*`\n$")
+            self.assertTrue(error.isascii() and "\x1b" not in error, error)
+
     def test_a_hostile_message_can_not_drive_the_terminal(self):
         report = data_bytes("conflict.report") + b"| \x1b[2J\xff\xe2\x80\xae\n"
         files = (data_path("app.catalogue"), data_path("conflict.request"), self.write("x.report", report))
