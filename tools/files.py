@@ -13,18 +13,19 @@ import threading
 from contextlib import contextmanager
 from typing import Iterator, Optional
 
-from tools.words import Fault
+from tools.words import Fault, visible
 
 SLOW = 1.0  # seconds after which people hear of a step
 TOP = os.path.dirname(os.path.dirname(os.path.abspath(__file__)))
 
 
 class Failure(Exception):
-    """An error for people: `FILE: line N: reason`; status 2 is a fault, 1 a no."""
+    """An error for people, in one line: `FILE: line N: reason`; status 2 is a fault, 1 a no. A text of a stranger that is in the reason
+    can't drive a terminal."""
 
     def __init__(self, path: str, line: Optional[int], reason: str, status: int = 2) -> None:
         where = f"{path}: line {line}" if line else path
-        super().__init__(f"{where}: {reason}")
+        super().__init__(visible(f"{where}: {reason}"))
         self.status = status
 
 

@@ -126,6 +126,10 @@ class Views(FolderCase):
             error = run(*command, data_path("app.catalogue"), request, report)[2]
             self.assertRegex(error, "^tools: [^\n]*: line 2: line 2 of the request [^\n]*`#[^\n]*`\n$")
             self.assertTrue(error.isascii() and "\x1b" not in error, error)
+        index = self.write("index.json", '[{"name": "a", "version": "1", "requires_dist": ["b (\\u001b[2J\\n"]}]\n')
+        status, _, error = run("pypi", "catalogue", index)
+        self.assertEqual((status, error.count("\n"), "\x1b" in error), (2, 1, False), error)
+        self.assertIn("\\x1b[2J", error)
 
     def test_a_hostile_message_can_not_drive_the_terminal(self):
         report = data_bytes("conflict.report") + b"| \x1b[2J\xff\xe2\x80\xae\n"
