@@ -5,7 +5,7 @@ docs.py                      lists what is wrong: a module or a public call that
                              too; a crate that `crates.txt` lists for another that does not name it, or the reverse; a file with
                              a lock that CHANGING.md lacks; a name, file or crate that is missing, a dead link, a count of AUDIT.md
                              or of the rows in CLAIMS.md, the example of README.md; a command of `resolve-tools` that it doesn't
-                             take. Status 1 where anything is.
+                             take; a script that can't be run as the documents have it. Status 1 where anything is.
 docs.py --closure CRATE/SPEC ..  lists the files of specs/ that these import, all the way down, with their lines.
 """
 import argparse
@@ -184,6 +184,7 @@ def is_edit(text: str) -> bool:
 
 LIBRARIES = ("crates/*/src/**/*.rt", "crates/*/specs/*.antt", "crates/*/proofs/**/*.antt")
 PROGRAMS = ("tools/*.py", "checks/*.py")
+SCRIPTS = ("tools/*.py", "tools/*.sh", "tools/resolve-tools", "checks/*.py", "bench/*.py", "bindings/*.sh", ".ci/run")
 
 
 def known_words(forms: Tuple[str, ...]) -> Set[str]:
@@ -313,7 +314,16 @@ def example_faults() -> Iterator[str]:
         yield f"README.md: the example isn't that of {EXAMPLE}"
 
 
-# ---- the commands of resolve-tools
+# ---- commands
+
+def script_faults() -> Iterator[str]:
+    """A file that begins with `#!` may be executed."""
+    for form in SCRIPTS:
+        for path in sorted(glob.glob(os.path.join(ROOT, form))):
+            with open(path, "rb") as file:
+                if file.read(2) == b"#!" and not os.access(path, os.X_OK):
+                    yield f"{os.path.relpath(path, ROOT)}: can't be executed"
+
 
 def actions(parser: argparse.ArgumentParser) -> Dict[str, argparse.ArgumentParser]:
     """The commands below a parser."""
@@ -368,6 +378,7 @@ def faults() -> Iterator[str]:
     yield from row_faults()
     yield from door_faults()
     yield from example_faults()
+    yield from script_faults()
     in_libraries = known_words(LIBRARIES)
     words = in_libraries | known_words(PROGRAMS)
     for page in pages():
