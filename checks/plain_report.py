@@ -1,9 +1,12 @@
+#!/usr/bin/env python3
 """The report of what plain_search.py found, line by line as docs/FORMATS.md has it; plain and slow.
 
 `report(catalogue, request, options)` takes two texts as values and returns a value of tools/texts.py.
+Usage: checks/plain_report.py CATALOGUE REQUEST     prints the report, or the first fault, with the status of `resolve solve`
 """
 from __future__ import annotations
 
+import sys
 from typing import Iterable, Iterator, Optional, Union
 
 from plain_judge import holds
@@ -180,3 +183,26 @@ def report(catalogue: Catalogue, request: Request, options: Options = Options())
     writer = Writer(catalogue, request, options)
     outcome = Turns(writer.facts, options).run()
     return writer.refused(outcome) if outcome.conflict is not None else writer.installed(outcome)
+
+
+def main() -> int:
+    """Solves the texts of two files."""
+    if len(sys.argv) != 3:
+        print(__doc__)
+        return 2
+    data = []
+    for path in sys.argv[1:]:
+        with open(path, "rb") as file:
+            data.append(file.read())
+    try:
+        catalogue = texts.read_catalogue(data[0])
+        found = report(catalogue, texts.read_request(data[1], catalogue))
+    except texts.Fault as fault:
+        print(f"fault at {fault}")
+        return 2
+    sys.stdout.buffer.write(texts.report_text(found))
+    return 1 if isinstance(found, Refused) else 0
+
+
+if __name__ == "__main__":
+    sys.exit(main())
