@@ -22,7 +22,7 @@ WORD = re.compile(r"[A-Za-z_][\w'-]*")
 COMMENT = re.compile(r"//.*|(?:^|(?<=\s))--(?=\s|$).*", re.M)
 TYPE = re.compile(r"^ *pub (?:record|data) ([\w'-]+)", re.M)
 SIGNATURE = re.compile(r"^ *(?P<words>(?:(?:abbrev|unfoldable|pub) )*)(?P<name>[\w'-]+) :(?= )", re.M)
-HEAD = re.compile(r"^ *([\w'-]+)(?![\w'-]| :).*=", re.M)
+HEAD = re.compile(r"^ *([\w'-]+)(?![\w'-]| :)(?:(?!λ|let |≡).)*?(?<= )=(?= |$)", re.M)
 
 
 def defined(text):
