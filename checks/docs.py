@@ -5,7 +5,8 @@ docs.py                      lists what is wrong: a module or a public call that
                              too; a crate that `crates.txt` lists for another that does not name it, or the reverse; a file with
                              a lock that CHANGING.md lacks; a name, file or crate that is missing, a dead link, a count of AUDIT.md
                              or of the rows in CLAIMS.md, the example of README.md; a command of `resolve-tools` that it doesn't
-                             take; a script that can't be run as the documents have it. Status 1 where anything is.
+                             take, or whose output is another one; a script that can't be run as the documents have it; a report of
+                             examples/ or README.md that isn't that of the plain search. Status 1 where anything is.
 docs.py --closure CRATE/SPEC ..  lists the files of specs/ that these import, all the way down, with their lines.
 """
 import argparse
@@ -21,7 +22,10 @@ from typing import Dict, Iterator, List, Optional, Set, Tuple
 ROOT = os.path.dirname(os.path.dirname(os.path.abspath(__file__)))
 sys.path.insert(0, ROOT)
 
+from plain_report import solved  # noqa: E402
+from tools.front import main as run_tools  # noqa: E402
 from tools.front import make_parser  # noqa: E402
+from tools.texts import report_text  # noqa: E402
 
 EXAMPLE = "checks/calls/example.rt.txt"
 PAGES = ("README.md", "CONTRIBUTING.md", "docs/*.md", "crates/*/README.md", "bindings/*/README.md")
@@ -369,6 +373,38 @@ def command_faults(page: str) -> Iterator[str]:
                 yield f"{page}: resolve-tools has {fault}: `{item}`"
 
 
+def shown_by(command: str) -> str:
+    """What a command of a page prints: `cat`, `resolve solve` by the plain search, or `resolve-tools`, over files below the root."""
+    words = [os.path.join(ROOT, word) if word.startswith("examples/") else word for word in shlex.split(command)]
+    if words[0] == "cat":
+        return read(words[1])
+    if words[:2] == ["resolve", "solve"]:
+        return report_text(solved(*words[2:])).decode()
+    with contextlib.redirect_stdout(io.TextIOWrapper(io.BytesIO(), encoding="utf-8")) as out:
+        run_tools(words[1:])
+        out.flush()
+        return out.buffer.getvalue().decode()
+
+
+def output_faults(page: str) -> Iterator[str]:
+    """Outputs of a page, below `$ COMMAND`, that the command over examples/ doesn't print."""
+    for block in re.findall(r"^```\n(\$ .*?)^```", read(page), flags=re.M | re.S):
+        for command, output in re.findall(r"^\$ (.*)\n((?:(?!\$ ).*\n)*)", block, flags=re.M):
+            known = command.startswith(("cat ", "resolve solve ", "tools/resolve-tools ")) and "examples/" in command
+            if known and shown_by(command) != output:
+                yield f"{page}: `{command}` prints something else"
+
+
+def report_faults() -> Iterator[str]:
+    """Reports of examples/ that aren't those of the plain search."""
+    for path in sorted(glob.glob(os.path.join(ROOT, "examples/*.request"))):
+        name = path.removesuffix(".request")
+        catalogue = f"{name}.catalogue" if os.path.exists(f"{name}.catalogue") else os.path.join(ROOT, "examples/app.catalogue")
+        with open(f"{name}.report", "rb") as file:
+            if file.read() != report_text(solved(catalogue, path)):
+                yield f"{os.path.relpath(name, ROOT)}.report: isn't that of the plain search"
+
+
 def faults() -> Iterator[str]:
     """All that is wrong."""
     yield from crate_faults()
@@ -379,12 +415,14 @@ def faults() -> Iterator[str]:
     yield from door_faults()
     yield from example_faults()
     yield from script_faults()
+    yield from report_faults()
     in_libraries = known_words(LIBRARIES)
     words = in_libraries | known_words(PROGRAMS)
     for page in pages():
         yield from name_faults(page, words)
         yield from import_faults(page)
         yield from command_faults(page)
+        yield from output_faults(page)
         if page.startswith("crates/") or os.path.basename(page) in ("ARCHITECTURE.md", "CHANGING.md", "CLAIMS.md", "GLOSSARY.md", "AUDIT.md", "PROOFS.md", "WALK.md"):
             yield from word_faults(page, words, in_libraries)
 

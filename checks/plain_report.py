@@ -185,18 +185,20 @@ def report(catalogue: Catalogue, request: Request, options: Options = Options())
     return writer.refused(outcome) if outcome.conflict is not None else writer.installed(outcome)
 
 
+def solved(catalogue_path: str, request_path: str) -> Union[Report, Install, Refused]:
+    """The report of the texts of two files."""
+    with open(catalogue_path, "rb") as first, open(request_path, "rb") as second:
+        catalogue = texts.read_catalogue(first.read())
+        return report(catalogue, texts.read_request(second.read(), catalogue))
+
+
 def main() -> int:
-    """Solves the texts of two files."""
+    """Prints the report of two files."""
     if len(sys.argv) != 3:
         print(__doc__)
         return 2
-    data = []
-    for path in sys.argv[1:]:
-        with open(path, "rb") as file:
-            data.append(file.read())
     try:
-        catalogue = texts.read_catalogue(data[0])
-        found = report(catalogue, texts.read_request(data[1], catalogue))
+        found = solved(*sys.argv[1:])
     except texts.Fault as fault:
         print(f"fault at {fault}")
         return 2
