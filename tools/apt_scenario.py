@@ -8,7 +8,7 @@ import itertools
 import re
 from bisect import bisect_right
 from dataclasses import dataclass, field
-from typing import Iterable, Iterator, Optional
+from typing import Iterable, Optional
 
 from tools.deb822 import Fields, Record, check_encoding, split_records
 from tools.debian import PROVIDED, Listed, Universe

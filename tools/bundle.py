@@ -13,7 +13,7 @@ from tools import texts
 from tools.catalogue import Catalogue, Line, Placed, Request, line_text
 from tools.dictionary import Dictionary, RealSpelling, read_dictionary
 from tools.files import of_file, progress, read_bytes
-from tools.reports import Install, Refused, Report, Step
+from tools.reports import Refused, Report, Step
 from tools.words import PLAIN, Bad, Fault, Spec, Spelling, Version, quoted, specs_text
 
 

@@ -8,7 +8,7 @@ docs/MAPPING.md has what each field becomes.
 from __future__ import annotations
 
 from dataclasses import dataclass
-from typing import Any, Iterable, Iterator, Optional
+from typing import Any, Iterable, Iterator
 
 from tools.files import Failure
 from tools.index import Limits, Match, Needs, Release, Rule, checked_name, checked_text, sum_of_files

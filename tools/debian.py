@@ -20,7 +20,7 @@ from tools.catalogue import VersionLine, WishLine, catalogue_text, request_text
 from tools.deb822 import Fields, Group, Record, Relation, read_groups, read_list, read_relation, split_records
 from tools.deb822 import version_key
 from tools.dictionary import Dictionary, escape
-from tools.files import Failure, progress, read_bytes, shown_path, write_bytes
+from tools.files import Failure, progress, read_bytes, shown_path
 from tools.words import Bad, Spec, Version
 
 NEEDS = (("Pre-Depends", "pre-depends"), ("Depends", "depends"))

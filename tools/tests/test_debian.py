@@ -11,7 +11,7 @@ from unittest import mock
 
 from tools import apt_solver, texts
 from tools.deb822 import Relation, read_relation, version_key
-from tools.debian import Universe, runs_of
+from tools.debian import runs_of
 from tools.tests.base import FolderCase, Output, run
 from tools.words import Bad
 
