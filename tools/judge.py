@@ -7,7 +7,7 @@ here is shared with that program, and nothing is proved: checks/judging.py compa
 """
 from __future__ import annotations
 
-from typing import Iterable, Optional
+from typing import Any, Collection, Iterable, Optional
 
 from tools import texts
 from tools.texts import Catalogue, Condition, Literal, NeedsLine, Placed, Request, Spec, Step, Version, cases, line_text
@@ -21,7 +21,7 @@ class Refused(Exception):
     """The line doesn't hold, for this reason."""
 
 
-def shown(value: object) -> object:
+def shown(value: Any) -> object:
     """A value in a reason; a line is quoted."""
     return value if value is None or isinstance(value, (str, int, Version, Spec)) else quoted(line_text(value))
 
@@ -35,7 +35,7 @@ def need(test: bool, why: str, *values: object) -> None:
 # ---- what lines ask of a set of versions
 
 
-def holds(condition: Optional[Condition], chosen: Iterable[Version]) -> bool:
+def holds(condition: Optional[Condition], chosen: Collection[Version]) -> bool:
     """Whether a condition holds among these versions."""
     return any(all(any(spec.matches(v) for v in chosen) for spec in case) for case in cases(condition))
 
@@ -45,7 +45,7 @@ def barred_by(placed: Placed) -> Version:
     return placed.owner if isinstance(placed.line, texts.UnknownLine) else placed.line.version
 
 
-def obeys(placed: Placed, chosen: Iterable[Version]) -> bool:
+def obeys(placed: Placed, chosen: Collection[Version]) -> bool:
     """Whether the set of these versions obeys the line."""
     line = placed.line
     if placed.owner is not None and placed.owner not in chosen:
@@ -130,7 +130,7 @@ class Judge:
         """The catalogue lists the version."""
         need(v in self.catalogue.line_of, "the catalogue doesn't list {}", v)
 
-    def is_many(self, named: object) -> bool:
+    def is_many(self, named: Any) -> bool:
         """Whether the package of a version or SPEC is marked `many`."""
         return named.package in self.catalogue.many
 
@@ -260,7 +260,7 @@ class Judge:
         self.lists(step.version)
         return [Literal(step.version, False), Literal(texts.AnyAtom(step.version.package), True)]
 
-    def marked(self, named: object, wanted: bool) -> None:
+    def marked(self, named: Any, wanted: bool) -> None:
         """The package is marked `many`, or isn't: only then it has `matches` atoms, or bits."""
         why = "{} isn't marked `many`, so nothing is stated of its matches" if wanted else "{} is marked `many`, so it has no bits"
         need(self.is_many(named) == wanted, why, named.package)
