@@ -1,11 +1,13 @@
 #!/usr/bin/env python3
 """Checks a release in a folder where nothing else is: no loader, no library, no program.
 
-Usage: checks/release.py TARBALL [PATH OF THE PROGRAM]     (as root, since it uses chroot)
+Usage: checks/release.py TARBALL [PATH OF THE PROGRAM] [TARBALL OF ANOTHER RUN]     (as root, since it uses chroot)
 Default for the program: crates/resolve/out/resolve (which `rt run` leaves).
-The sums must be right, and the first example of README.md must be answered as there. All rows of crates/resolve_rows/data must
-get the program's bytes and status. The seconds from the tarball to the first answer are printed.
+A release of another run over the same commit must be the same bytes. The sums must be right, and the first example of README.md must
+be answered as there. All rows of crates/resolve_rows/data must get the program's bytes and status. The seconds from the tarball to the
+first answer are printed.
 """
+import filecmp
 import os
 import re
 import subprocess
@@ -61,6 +63,9 @@ def main():
     if len(sys.argv) < 2:
         sys.exit(__doc__)
     program = os.path.abspath(sys.argv[2] if len(sys.argv) > 2 else os.path.join(TOP, "crates/resolve/out/resolve"))
+    if len(sys.argv) > 3:
+        must(filecmp.cmp(sys.argv[1], sys.argv[3], shallow=False), "two runs gave two releases", *sys.argv[1:4:2])
+        print("another run gave the same bytes")
     with tempfile.TemporaryDirectory() as folder, tempfile.TemporaryDirectory() as texts_folder:
         began = time.monotonic()
         subprocess.run(["tar", "xf", os.path.abspath(sys.argv[1]), "-C", folder], check=True)
