@@ -4,9 +4,9 @@
 docs.py                      lists what is wrong: a module or a public call that the README of its room lacks, an item of its door
                              too; a crate that `crates.txt` lists for another that does not name it, or the reverse; a file with
                              a lock that CHANGING.md lacks; a name, file or crate that is missing, a dead link, a count of AUDIT.md
-                             or of the rows in CLAIMS.md, the example of README.md; a command of `resolve-tools` that it doesn't
-                             take, or whose output is another one; a script that can't be run as the documents have it; a report of
-                             examples/ or README.md that isn't that of the plain search. Status 1 where anything is.
+                             or of the rows, in CLAIMS.md or in what their program prints; the example of README.md; a command of
+                             `resolve-tools` that it doesn't take, or whose output is another one; a script that can't be executed;
+                             a report of examples/ or README.md that isn't that of the plain search. Status 1 where anything is.
 docs.py --closure CRATE/SPEC ..  lists the files of specs/ that these import, all the way down, with their lines.
 """
 import argparse
@@ -17,12 +17,14 @@ import os
 import re
 import shlex
 import sys
+from collections import Counter
 from typing import Dict, Iterator, List, Optional, Set, Tuple
 
 ROOT = os.path.dirname(os.path.dirname(os.path.abspath(__file__)))
 sys.path.insert(0, ROOT)
 
 from plain_report import solved  # noqa: E402
+from rows import read_all  # noqa: E402
 from tools.front import main as run_tools  # noqa: E402
 from tools.front import make_parser  # noqa: E402
 from tools.texts import report_text  # noqa: E402
@@ -269,14 +271,15 @@ def changing_faults() -> Iterator[str]:
 
 
 def row_faults() -> Iterator[str]:
-    """CLAIMS.md counts the rows, all and by kind, as COVERAGE.md counts them by file."""
-    files = re.findall(r"^\| `(\w+)` \| (\d+) \|", read("docs/COVERAGE.md"), re.M)
-    claims = read("docs/CLAIMS.md")
-    total = sum(int(rows) for name, rows in files if name.split("_")[0] in {begin for begins in ROW_KINDS.values() for begin in begins})
+    """CLAIMS.md counts the rows, all and by kind, and their program must print how many there are."""
+    counts = Counter(row.name.split("_")[0] for row in read_all())
+    claims, total = read("docs/CLAIMS.md"), sum(counts.values())
     if f"runs {total} rows" not in claims:
         yield f"docs/CLAIMS.md: there are {total} rows"
+    if read("crates/resolve_rows/stdout") != f"{total} rows, as expected\n":
+        yield f"crates/resolve_rows/stdout: there are {total} rows"
     for words, begins in ROW_KINDS.items():
-        count = sum(int(rows) for name, rows in files if name.split("_")[0] in begins)
+        count = sum(counts[begin] for begin in begins)
         if f"| {count} {words} |" not in claims:
             yield f"docs/CLAIMS.md: there are {count} {words}"
 
