@@ -20,7 +20,7 @@ use Rattle.resolvo_sat.specs.Entries.{literal_of, reason_of, made_true, before, 
 use Rattle.resolvo_sat.specs.State.{count_of, history, clauses_of, named, IsDerived, IsState}
 use Rattle.resolvo_sat.specs.Marks.{AreNone}
 use Rattle.resolvo_sat.specs.Analysis.{is_seen, denied, Seen, Collects, IsAppended, MayBeAppended, AreDeniedBelow, IsAsserting, IsMet, IsBelow, AreFromClauses, IsLearnt, IsLearntOf, IsAnalysis, IsRefusal, IsReason, Walks}
-use Rattle.resolvo_sat.proofs.Literals.{negation-negation, has-cons, has_here, has-append, has_left, has_right, has_more, more_has_old, more_has_new}
+use Rattle.resolvo_sat.proofs.Literals.{negation-negation, has-cons, has_here, has-append, has_left, has_right, more_has_old, more_has_new}
 use Rattle.resolvo_sat.proofs.Refutations.{refutes_more}
 use Rattle.resolvo_sat.proofs.Trails.{known_from_level, level_from_known, level_from_entry}
 use Rattle.resolvo_sat.proofs.Guards.{level_is}
@@ -248,38 +248,6 @@ rotated {X} (d ∷ xs) ys x some is moved = subst (IsPermutation (d ∷ xs)) (sy
 -- the literals below the level, of those that were met so far
 pub below_none : (s : SatState) (level : ℕ) → 0 < level → IsBelow s [] level [] 0
 below_none s level above = record { only = λ l h. absurd (both_ways false refl h); takes = λ l h lt. absurd (both_ways false refl h); low = above }
-
-pub below_skips : (s : SatState) (met : List Signed) (i : ℕ) (x : Signed) (level : ℕ) (literals : List Signed) (highest : ℕ) → i < length met → x ≡ get_or met i x → level ≤ level_or (assigned s.tracker.trail x.variable.0)
-    → IsBelow s (take i met) level literals highest → IsBelow s (take (i + 1) met) level literals highest
-below_skips s met i x level literals highest lt is above b = record {
-  only = λ l h. let (a, low) = b.only l h in (more_has_old met i x l lt a, low);
-  takes = λ l h below. elim (has_more met i x l lt h) [
-    | inl a ↦ b.takes l a below
-    | inr e ↦
-        let same : level_or (assigned s.tracker.trail x.variable.0) ≡ level_or (assigned s.tracker.trail l.variable.0) = ap (λ (y : Signed). level_or (assigned s.tracker.trail y.variable.0)) (is ∙ e) in
-        absurd (omega arith)
-  ];
-  low = b.low;
-}
-
-pub below_takes : (s : SatState) (met : List Signed) (i : ℕ) (x : Signed) (level : ℕ) (literals more : List Signed) (highest higher : ℕ) → i < length met → x ≡ get_or met i x → level_or (assigned s.tracker.trail x.variable.0) < level → more ≡ literals ++ x ∷ []
-    → higher ≡ max highest (level_or (assigned s.tracker.trail x.variable.0)) → IsBelow s (take i met) level literals highest → IsBelow s (take (i + 1) met) level more higher
-below_takes s met i x level literals more highest higher lt is below push most b = subst (λ (ls : List Signed). IsBelow s (take (i + 1) met) level ls higher) (sym push) (record {
-  only = λ l h. elim (has-append literals (x ∷ []) l h) [
-    | inl a ↦ let (c, low) = b.only l a in (more_has_old met i x l lt c, omega arith)
-    | inr a ↦ elim (has-cons x [] l a) [
-      | inl e ↦
-          let same : level_or (assigned s.tracker.trail x.variable.0) ≡ level_or (assigned s.tracker.trail l.variable.0) = ap (λ (y : Signed). level_or (assigned s.tracker.trail y.variable.0)) e in
-          (has_new met i x l lt is e, omega arith)
-      | inr e ↦ absurd (both_ways false refl e)
-    ]
-  ];
-  takes = λ l h low. elim (has_more met i x l lt h) [
-    | inl a ↦ has_left literals (x ∷ []) l (b.takes l a low)
-    | inr e ↦ has_right literals (x ∷ []) l (has_here x [] l (is ∙ e))
-  ];
-  low = let old : highest < level = b.low in omega arith;
-})
 
 pub below_ends : (s : SatState) (met : List Signed) (i level : ℕ) (literals moved : List Signed) (highest : ℕ) → length met ≤ i → IsPermutation literals moved → IsBelow s (take i met) level literals highest → IsBelow s met level moved highest
 below_ends s met i level literals moved highest all same b =
