@@ -59,8 +59,8 @@ struct Others {
 }
 
 /// Marks the variables of the literals, except the root's. Each literal that is met for the first
-/// time is appended to those that were met before, the root's too. Returns how many variables weren't
-/// marked before, and how many of these are of this level.
+/// time is appended to those that were met before, the root's too. Returns how many variables
+/// weren't marked before, and how many of these are of this level.
 pub(crate) fn mark_seen(
     seen: &mut Marks,
     met: &mut Vec<Literal>,
@@ -92,7 +92,8 @@ pub(crate) fn mark_seen(
 
 /// Marks the variable of a literal, and appends the literal where it wasn't marked.
 fn meet(seen: &mut Marks, met: &mut Vec<Literal>, literal: Literal) -> R<bool>
-    ensures added { IfOk result (λ new. new ≡ not (slice_index_or seen.old literal.variable.0 false)) }
+    ensures added { IfOk result
+        (λ new. new ≡ not (slice_index_or seen.old literal.variable.0 false)) }
     ensures put { OnOk result (IsMarked literal.variable.0 seen.old seen.new) }
     ensures appended { IfOk result
         (λ new. IsAppended literal new met.old.items met.new.items) }
@@ -218,12 +219,13 @@ impl SatState {
         self.are_below(place, entry.level, seen)
     }
 
-    /// Whether each marked entry among the first `place` is below a level. The walk ends at the first
-    /// entry below it.
+    /// Whether each marked entry among the first `place` is below a level. The walk ends at the
+    /// first entry below it.
     fn are_below(&self, place: usize, level: u32, seen: &Marks) -> bool
         requires state { IsState self.now }
         requires in_range { place ≤ length self.now.tracker.trail }
-        ensures { result ≡ true → AreDeniedBelow seen.now (before self.now.tracker.trail place) level }
+        ensures { result ≡ true
+            → AreDeniedBelow seen.now (before self.now.tracker.trail place) level }
     {
         let mut place = place;
         while place > 0 {
