@@ -27,6 +27,10 @@ use Rattle.resolvo_decide.proofs.FitLemmas.{later_none, some_one, offer_beaten, 
 pub bit_nil : (i : ℕ) → bit_of [] i ≡ 0 → ⊥
 bit_nil i none = (let one : bit_of [] i ≡ 1 = bit_out [] i (omega arith) in omega (arith, one, none))
 
+-- without words of warm clauses only the marks tell
+pub only_marked : (ms : List ℕ) (i : ℕ) → (bit_of ms i ≡ 0) ⊎ (bit_of [] i ≡ 0) → bit_of ms i ≡ 0
+only_marked ms i h = elim h [ inl unmarked ↦ unmarked | inr none ↦ absurd (bit_nil i none) ]
+
 -- no word has a bit that is 0
 pub none_cold : {N : Type 0} (lists : FixedLists N) (cold : ColdClauses N) (queue : List NeedClause) → cold.warm.items ≡ [] → HasColdBits lists cold queue
 none_cold lists cold queue none i zero_bit =

@@ -122,21 +122,7 @@ module _ (w k : ℕ) where
         λ j above below. behind j above ∙ lowest.2 (j - k) (omega (arith, above, below)),
       )
 
--- ---- the marks of a range
-
--- within one word
-pub in_word : (ms : List ℕ) (k lo hi i : ℕ) → ((j : ℕ) → lo ≤ j → j < hi → bit_at (word_at ms k) j ≡ 0) → hi ≤ 64 → k * 64 + lo ≤ i → i < k * 64 + hi → bit_of ms i ≡ 0
-unfolding bit_of
-in_word ms k lo hi i none small above below =
-    let at : i / 64 ≡ k = omega arith in
-    ap (λ b. bit_at (word_at ms b) (i % 64)) at ∙ none (i % 64) (omega arith) (omega arith)
-
--- over words without a bit
-pub in_words : (ms : List ℕ) (from to i : ℕ) → ((k : ℕ) → from ≤ k → k < to → word_at ms k ≡ 0) → from * 64 ≤ i → i < to * 64 → bit_of ms i ≡ 0
-unfolding bit_of
-in_words ms from to i none above below = ap (λ w. bit_at w (i % 64)) (none (i / 64) (omega arith) (omega arith)) ∙ bit_at-zero (i % 64)
-
--- ---- bits that are set in two words
+-- ---- the marks of a range, in two words
 
 and_none : (a b i : ℕ) → bit_at (bit_and a b) i ≡ 0 → (bit_at a i ≡ 0) ⊎ (bit_at b i ≡ 0)
 and_none a b i none =

@@ -403,23 +403,14 @@ pub(crate) fn add_words(marks: &mut Vec<u64>, count: usize) -> R<()>
     Ok(())
 }
 
-/// The first marked position in a range, or its end.
+/// The first marked position in a range, or its end: each clause may be warm.
 fn first_marked(marks: &[u64], from: usize, end: usize) -> usize
     requires { from ≤ end }
     ensures behind { from ≤ result }
     ensures within { result ≤ end }
     ensures passed { (i : ℕ) → from ≤ i → i < result → bit_of marks.now i ≡ 0 }
 {
-    let block = from / BLOCK;
-    let first = block * BLOCK;
-    let place = first_bit(word_of(marks, block), from % BLOCK);
-    let last = end / BLOCK;
-    if place < BLOCK || last <= block {
-        return first + place.min(end - first);
-    }
-    let found = first_word(marks, block + 1, last);
-    let start = found * BLOCK;
-    start + first_bit(word_of(marks, found), 0).min(end - start)
+    first_warm(marks, &[], from, end)
 }
 
 /// The first position in a range that is marked and may be warm, or its end.
@@ -467,22 +458,6 @@ fn first_warm_word(marks: &[u64], warm: &[u64], from: usize, last: usize) -> usi
         }
     }
     last
-}
-
-/// The first block from this one on with a marked clause, or the last one.
-fn first_word(marks: &[u64], from: usize, last: usize) -> usize
-    requires { from ≤ last }
-    ensures behind { from ≤ result }
-    ensures within { result ≤ last }
-    ensures passed { (k : ℕ) → from ≤ k → k < result → word_at marks.now k ≡ 0 }
-{
-    let end = last.min(marks.len());
-    for block in from..end {
-        if marks[block] != 0 {
-            return block;
-        }
-    }
-    from.max(end)
 }
 
 /// The first place from this one on whose bit in a word is set, or the number of bits.

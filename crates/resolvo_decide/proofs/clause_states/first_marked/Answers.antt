@@ -1,29 +1,5 @@
-use Rattle.std.proofs.Common.{◌+◌, ◌*◌, ◌/◌, ◌%◌, inl, inr, ap, sym, ◌∙◌, arith}
-use Rattle.std.specs.Int.{bit_at}
-use Rattle.std.proofs.lemmas.Bool.{cases_lt}
-use Rattle.resolvo_decide.proofs.MarkLemmas.{in_word, in_words}
+use Rattle.resolvo_decide.proofs.ColdLemmas.{only_marked}
 use Rattle.resolvo_decide.proofs.clause_states.first_marked.Goals as goal
 
-pub returns-then-place-lt-BLOCK-clause-passed : goal.returns-then-place-lt-BLOCK-clause-passed
-returns-then-place-lt-BLOCK-clause-passed c = λ i above below.
-    let place = c.first_bit-place.ensures in
-    in_word c.args.marks.now (c.args.from / 64) (c.args.from % 64) c.first_bit-place.result i (λ j up down. ap (λ w. bit_at w j) (sym c.word_of.ensures) ∙ place.passed j up down)
-    place.within (omega arith) (omega (arith, below, c.min.ensures))
-
 pub returns-clause-passed : goal.returns-clause-passed
-returns-clause-passed c = λ i above below.
-    let ms = c.args.marks.now in
-    let from = c.args.from in
-    let found = c.first_word-found.result in
-    let place = c.first_bit-place.ensures in
-    let words = c.first_word-found.ensures in
-    let last = c.first_bit.ensures in
-    elim (cases_lt i ((from / 64 + 1) * 64)) [
-      | inl front ↦ in_word ms (from / 64) (from % 64) c.first_bit-place.result i (λ j up down. ap (λ w. bit_at w j) (sym c.word_of.ensures) ∙ place.passed j up down)
-          place.within (omega arith) (omega (arith, front, c.if-place-lt-BLOCK.false))
-      | inr behind ↦ elim (cases_lt i (found * 64)) [
-        | inl between ↦ in_words ms (from / 64 + 1) found i words.passed behind between
-        | inr end ↦ in_word ms found 0 c.first_bit.result i (λ j up down. ap (λ w. bit_at w j) (sym c.word_of-2.ensures) ∙ last.passed j up down)
-            last.within (omega (arith, end)) (omega (arith, below, c.min-2.ensures))
-      ]
-    ]
+returns-clause-passed c = λ i above below. only_marked c.args.marks.now i (c.first_warm.ensures.passed i above below)
