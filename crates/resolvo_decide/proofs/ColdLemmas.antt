@@ -49,14 +49,6 @@ keeps_fewer old new bits names = λ lists queue h i none.
       cold = record { some = one.cold.some; none = λ c there hot. one.cold.none c there (names c.package hot) };
     }
 
--- where one clause more is cold
-pub keeps_noted : {N : Type 0} (lists : FixedLists N) (position : ℕ) (q : NeedClause) (old new : ColdClauses N) → new.hot ≡ old.hot → ((i : ℕ) → bit_of new.warm.items i ≡ 0 → (bit_of old.warm.items i ≡ 0) ⊎ ((i ≡ position) × AreCold old.hot.items (candidates_in lists q.requirement))) → KeepsColdAt lists position q old new
-keeps_noted {N} lists position q old new same noted = λ queue at h i none.
-    subst (λ (v : Vec N Global). IsColdAt lists v.items queue i) (sym same) (elim (noted i none) [
-      | inl before ↦ h i before
-      | inr (is, cold) ↦ record { need = q; there = ap (slice_get queue) is ∙ at; cold = cold }
-    ])
-
 -- candidates of packages with score 0
 unscored : {N : Type 0} (score : N → ℕ) (cs : List (Candidate N)) → list_all (λ c. score c.package == 0) cs ≡ true → (c : Candidate N) → Contains cs c → score c.package ≡ 0
 unscored score [] h c (k, low, is) = absurd (omega (arith, low))

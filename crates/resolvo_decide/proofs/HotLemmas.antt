@@ -7,10 +7,6 @@ use Rattle.std.proofs.lemmas.List.Elements.{Contains-append_left, Contains-appen
 use Rattle.std.proofs.lemmas.List.{take_more, take_all}
 use Rattle.resolvo_decide.specs.HotNames.{AreHot}
 
--- all scores are 0
-pub none_hot : {N : Type 0} (score : N → ℕ) → ((n : N) → score n ≡ 0) → AreHot score []
-none_hot score none = record { listed = λ n out. none n; scored = λ n (k, low, is). absurd (omega (arith, low)) }
-
 module _ {N : Type 0} (eq : N → N → Bool) (exact : (x y : N) → eq x y ≡ true → x ≡ y) (old new : N → ℕ) (n : N) (x : ℕ) (puts : (m : N) → new m ≡ cond (eq n m) x (old m)) (hot : List N) (h : AreHot old hot) where
   pub bumped_bound : (most : ℕ) → ((m : N) → old m ≤ most) → x ≤ most → (m : N) → new m ≤ most
   bumped_bound most below low m = go (eq n m) (puts m)
