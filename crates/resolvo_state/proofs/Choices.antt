@@ -66,9 +66,3 @@ module _ {N S : Type 0} where
       let low : e.decision.variable.0 < count = follows.in_range in
       let here : choice_of more e ≡ choice_of atoms e = ap (λ (o : Option S). cond e.decision.value o None) (solvable_kept atoms more e.decision.variable.0 (omega arith) prefix) in
       choices_newest more e older ∙ ap (λ (xs : List S). xs ++ cons_option (choice_of more e) []) (choices_kept atoms more count clauses older t long prefix) ∙ ap (λ (o : Option S). choices atoms (reverse older) ++ cons_option o []) here ∙ sym (choices_newest atoms e older)
-
-  -- where the trail grows, so do its choices
-  pub choices_go_on : (atoms : List (ProofAtom N S)) (old new : List Entry) → EndsWith (reverse old) (reverse new) → IsPrefixOf (choices atoms old) (choices atoms new)
-  choices_go_on atoms old new (p, is) =
-      let whole : new ≡ old ++ reverse p = sym (reverse-reverse new) ∙ ap reverse is ∙ reverse-append p (reverse old) ∙ ap (λ (es : List Entry). es ++ reverse p) (reverse-reverse old) in
-      (choices atoms (reverse p), ap (choices atoms) whole ∙ filter_map-append (choice_of atoms) old (reverse p))

@@ -127,9 +127,6 @@ nothing_tied {N} {S} r c none kinds = record {
     no_digit zero name s place bit h = absurd cc
     no_digit (suc n) name s place bit h = absurd cc
 
-pub nothing_registered : {N S : Type 0} (r : Registry N) (c : SolverState N S) (name : N) (s : S) → IsNothing r → IsRegistered r c name s → ⊥
-nothing_registered {N} {S} r c name s none (v, f, h) = contains_none (member name v) (subst (λ (xs : List (Member N)). Contains xs (member name v)) none.members h)
-
 module _ {N S : Type 0} (name : N) (place : ℕ) (r r1 : Registry N) (a : SolverState N S) (tied : AreTied r a) (places : PlacesName name place r r1) where
   -- a place with its package and its tracker is an old one, or has nothing
   old_or_empty : (k : ℕ) (m : N) (t : Tracking VariableId) → slice_get r1.names.keys k ≡ Some m → slice_get r1.trackers.items k ≡ Some t
@@ -454,16 +451,6 @@ module _ {N S : Type 0} (r : Registry N) (c : SolverState N S) (name : N) where
       let is : h.variable ≡ k.variable = cc in
       let both = represents_same c.atoms.keys k.variable (Solvable s) (Solvable t) (subst (λ (z : VariableId). Represents c.atoms.keys z (Solvable s)) is h.means) k.means in
       cc
-
--- a clause that encodes a digit makes no solvable true
-pub digit_denies : {N S : Type 0} (r : Registry N) (c : SolverState N S) (name : N) (n : ℕ) (l : Signed) (s : S) → IsDigitClause r c name n → has (clause_at (clauses_of c.search) n) l ≡ true → Means (origin c.atoms.keys) l (plus (Atom.solvable s)) → ⊥
-digit_denies {N} {S} r c name n l s d h (other, m) = elim (d.spells.only l h) [
-  | inl e ↦ (let z : l.variable.0 ≡ 0 = ap (λ (x : Signed). x.variable.0) e in omega arith)
-  | inr (o, k) ↦ elim (contains_cases (meaning (origin c.atoms.keys) l) (minus (Atom.solvable d.solvable)) ((let x : Literal (Atom N S) = record { atom = Atom.digit name d.bit; positive = digit d.place d.bit } in x) ∷ []) k) [
-    | inl e ↦ both_ways false refl (ap (λ (x : Literal (Atom N S)). x.positive) (sym (m ∙ e)))
-    | inr g ↦ (let e = contains_one (meaning (origin c.atoms.keys) l) (record { atom = Atom.digit name d.bit; positive = digit d.place d.bit }) g in let f : Atom.solvable s ≡ Atom.digit name d.bit = ap (λ (x : Literal (Atom N S)). x.atom) (m ∙ e) in absurd cc)
-  ]
-]
 
 -- A clause that encodes a digit spells its rule, where the package's registered solvables are the
 -- package's.

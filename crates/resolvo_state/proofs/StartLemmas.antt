@@ -113,16 +113,3 @@ gives_added {N} {S} a v old new coding fresh adds watching pushed kinds = record
 
     place : v.0 ≡ suc (length old.atoms.keys)
     place = adds.number ∙ count_is old coding
-
--- an atom that has its variable
-pub gives_found : {N S : Type 0} (a : ProofAtom N S) (v : VariableId) (c : SolverState N S) → IsCoding c → Represents c.atoms.keys v a → Gives a v c c
-gives_found a v c coding (k, e, at) = record {
-  coding = coding;
-  present = (k, e, at);
-  same = λ j bt. refl;
-  added = λ none. absurd (none k at);
-  grows = record { atoms = prefix_same c.atoms.keys; clauses = prefix_same c.search.clauses; kinds = prefix_same c.kinds.items; base_level = refl };
-  trail = record { tracker = refl };
-  clauses = refl;
-  kinds = refl;
-}
