@@ -28,9 +28,6 @@ use Rattle.resolvo_store.proofs.Picks.{SameNames, first_broken_same, pick_same}
 use Rattle.resolvo_store.proofs.FitLemmas.{literals_same, exist_same}
 use Rattle.resolvo_store_core.proofs.Walks.{lists_after_same}
 
-pub like_refl : {N : Type 0} (s : Stored N) → Like s s
-like_refl s = record { candidates = λ r. refl; disjunctions = refl; learnt = refl; clauses = refl; watched = refl; watchers = λ l. refl; trail = refl; needs = refl; score = λ n. refl }
-
 pub like_trans : {N : Type 0} (s t u : Stored N) → Like s t → Like t u → Like s u
 like_trans s t u a b = record {
   candidates = λ r. a.candidates r ∙ b.candidates r;
@@ -113,22 +110,6 @@ module _ {N : Type 0} (s t : Stored N) (like : Like s t) where
 
   pub answer_like : (c : StoreCall N) → answer_of s c ≡ answer_of t c
   answer_like c = ap (λ b. cond b (answer_to s c) Bad) (may_like c) ∙ ap (λ (a : PlainAnswer). cond (may t c) a Bad) (answer_to_like c)
-
-  -- both lack an id
-  pub lacks_like : (c : StoreCall N) → LacksNumber s c → LacksNumber t c
-  lacks_like (call.FixCandidates r groups) h = h
-  lacks_like (call.FixDisjunction ls) h = subst (λ (ds : List (List Signed)). length ds ≡ 4294967295) like.disjunctions h
-  lacks_like (call.FixLearnt ls) h = subst (λ (ds : List (List Signed)). length ds ≡ 4294967295) like.learnt h
-  lacks_like (call.AddClause c w) h = subst (λ (cs : List (Clause N)). length cs ≡ 4294967295) like.clauses h
-  lacks_like (call.Register p r d c) h = h
-  lacks_like (call.Assign v b c level) h = h
-  lacks_like call.UndoLast h = h
-  lacks_like (call.UndoUntil level) h = h
-  lacks_like (call.BumpName n add) h = h
-  lacks_like (call.Decay p) h = h
-  lacks_like (call.Walk l moves) h = h
-  lacks_like call.Falsified h = h
-  lacks_like call.NextDecision h = h
 
   module _ (eq : N → N → Bool) where
     candidates_change : (r : Requirement) (cs : List _) (q : Requirement) → cond (same_requirement r q) (Some cs) (s.candidates q) ≡ cond (same_requirement r q) (Some cs) (t.candidates q)

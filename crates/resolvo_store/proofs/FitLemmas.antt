@@ -57,35 +57,3 @@ lists_plain score k c = exist_same (has_disjunction k.lists) (has_condition (pla
     condition : (d : Option (DenseId DisjunctionTag ℕ)) → has_disjunction k.lists d ≡ has_condition (plain score k) d
     condition None = refl
     condition (Some d) = ap (nat_lt d.raw) (sym (length-map k.lists.disjunctions (λ (e : Disjunction). e.literals.items)))
-
--- a clause that passes both tests fits
-pub fits_by_tests : {N : Type 0} (ls : FixedLists N) (c : Clause N) → is_own_in_range c ≡ true → has_lists ls c ≡ true → Fits ls c
-fits_by_tests {N} ls c own there = record { in_range = range c own; lists = lists c there }
-  where
-    range : (d : Clause N) → is_own_in_range d ≡ true → OwnInRange d
-    range InstallRoot h = record {}
-    range (Requires p d r) h = ltb-true _ _ h
-    range (ForbidMultipleInstances v l p) h = ltb-true _ _ h
-    range (Constrains p x s) h = let b = and_parts _ _ h in (ltb-true _ _ b.0, ltb-true _ _ b.1)
-    range (ConstrainsParent p x s) h = let b = and_parts _ _ h in (ltb-true _ _ b.0, ltb-true _ _ b.1)
-    range (ConstrainsExcluded x y s) h = let b = and_parts _ _ h in (ltb-true _ _ b.0, ltb-true _ _ b.1)
-    range (Lock l o) h = ltb-true _ _ h
-    range (Learnt l) h = record {}
-    range (Excluded v s) h = ltb-true _ _ h
-    range (AnyOf x v) h = let b = and_parts _ _ h in (ltb-true _ _ b.0, ltb-true _ _ b.1)
-
-    disjunction : (d : Option (DenseId DisjunctionTag ℕ)) → has_disjunction ls d ≡ true → HasDisjunction ls d
-    disjunction None h = record {}
-    disjunction (Some d) h = ltb-true _ _ h
-
-    lists : (d : Clause N) → has_lists ls d ≡ true → HasLists ls d
-    lists InstallRoot h = record {}
-    lists (Requires p d r) h = let b = and_parts _ _ h in (disjunction d b.0, b.1)
-    lists (ForbidMultipleInstances v l p) h = record {}
-    lists (Constrains p x s) h = record {}
-    lists (ConstrainsParent p x s) h = record {}
-    lists (ConstrainsExcluded x y s) h = record {}
-    lists (Lock l o) h = record {}
-    lists (Learnt l) h = ltb-true _ _ h
-    lists (Excluded v s) h = record {}
-    lists (AnyOf x v) h = record {}
