@@ -10,10 +10,6 @@ use Rattle.resolvo_state.proofs.Positions.{get_set_here, get_set_other}
 use Rattle.resolvo_proof.specs.declared.step.ProofStep.{ProofStep}
 use Rattle.resolvo_proof.specs.Trimmed.{Names, IsFlagged, Flags, AreLeadingFrom}
 
--- no steps are named at first
-pub flags_none : (place : ℕ) (flags : List Bool) → Flags (Contains []) place flags flags
-flags_none place flags = (refl, λ k h. h, λ k n below. absurd (contains_none k n), λ k h. inl h)
-
 -- one more that is named
 pub flags_more : (xs : List ℕ) (c place : ℕ) (old mid : List Bool) → c < place → place ≤ length old → Flags (Contains xs) place old mid → Flags (Contains (xs ++ c ∷ [])) place old (slice_set mid c true)
 flags_more xs c place old mid below long (same, kept, named, only) = (

@@ -85,13 +85,6 @@ place_more cs c k ys is e = ap (λ zs. zs ++ k ∷ []) e ∙ (ap (λ n. places c
 pub place_skip : (cs : List ClauseId) (c : ClauseId) (ys : List ℕ) → c.0 ≡ 0 → ys ≡ places cs → ys ≡ places (cs ++ c ∷ [])
 place_skip cs c ys is e = e ∙ (sym (Rattle.std.proofs.lemmas.List.append-nil (places cs)) ∙ (ap (λ n. places cs ++ with_place n []) (sym is) ∙ sym (places-append cs (c ∷ []))))
 
--- a coding has the root's clause
-pub some_clause : {N S : Type 0} (c : SolverState N S) → IsCoding c → 1 ≤ length c.search.clauses
-some_clause c coding =
-    let within : 0 < length c.kinds.items = slice_get_within c.kinds.items 0 Kind.Root coding.first in
-    let each : length c.kinds.items ≡ length c.search.clauses = coding.each in
-    omega arith
-
 -- the literals of a clause are of variables that are there
 pub clause_in_range : {N S : Type 0} (c : SolverState N S) → IsCoding c → (n : ℕ) (clause : SatClause) → slice_get c.search.clauses n ≡ Some clause → AreInRange (count_of c.search) clause.literals
 clause_in_range c coding n clause at l h = coding.ready.state.in_range n l (subst (λ xs. has xs l ≡ true) (sym (literals_at c.search.clauses n clause at)) h)
