@@ -117,20 +117,3 @@ module _ {P N S C : Type 0} (old : Kept P N S) where
   kept_provider s ids left (Err (Cancelled value)) new h = absurd h
   kept_provider s ids left (Err Memory) new h = absurd h
   kept_provider s ids left (Err Ids) new h = absurd h
-
--- a search that stopped has none
-pub stopped_ended : (S : Type 0) {C : Type 0} (f : CacheFault C) (Q : Type 0) → IfEnded {S = S} (Err (stopped_by f)) Q
-stopped_ended S fault.Memory Q = tt
-stopped_ended S fault.Ids Q = tt
-stopped_ended S (fault.Cancelled c) Q = tt
-
-pub stopped_stopped : (S : Type 0) {C : Type 0} (may : C → Type 0) (f : CacheFault C) → IsCancelledBy may f → IsStopped {S = S} may (Err (stopped_by f))
-stopped_stopped S may fault.Memory h = tt
-stopped_stopped S may fault.Ids h = tt
-stopped_stopped S may (fault.Cancelled c) h = h
-
--- and no results
-pub stopped_leaves : {P N S C : Type 0} (f : CacheFault C) (k : Kept P N S) → HasNothing k → Leaves (Err (stopped_by f)) k
-stopped_leaves fault.Memory k h = h
-stopped_leaves fault.Ids k h = h
-stopped_leaves (fault.Cancelled c) k h = h
