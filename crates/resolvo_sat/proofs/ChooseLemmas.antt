@@ -12,8 +12,5 @@ use Rattle.resolvo_sat.proofs.Readiness.{ready_more, covered_same}
 pub choice_ready : (s t : SatState) (w : WatchLists) (v : VariableId) (c : ClauseId) → Chooses v c s t → IsReady s w → IsReady t w
 choice_ready s t w v c chosen ready = ready_more s t w (choice_entry v c (history s) ∷ []) ready chosen.state chosen.same.clauses chosen.pushed chosen.qhead (let e : t.guard_level ≡ s.guard_level = chosen.guard in omega arith)
 
-pub choice_covered : (s t : SatState) (w : WatchLists) (v : VariableId) (c : ClauseId) → Chooses v c s t → AreCovered s w → AreCovered t w
-choice_covered s t w v c chosen covers = covered_same s t w covers chosen.same.clauses
-
 pub undo_covered : (s t : SatState) (w : WatchLists) (level : ℕ) → Undoes level s t → AreCovered s w → AreCovered t w
 undo_covered s t w level undoes covers = covered_same s t w covers undoes.same.clauses

@@ -216,12 +216,6 @@ ready_noted s v w rest done ready =
 pub covered_noted : (s : SatState) (v w : WatchLists) → w ≡ record v { units_done = w.units_done } → AreCovered s v → AreCovered s w
 covered_noted s v w rest covers = subst (λ (x : WatchLists). AreCovered s x) (sym rest) (record { assertions = covers.assertions; learnt = covers.learnt; covered = covers.covered; first = covers.first })
 
--- a conflict, after notes were dropped
-pub conflicts_noted : (n : ℕ) (o s : SatState) (v u w : WatchLists) → u ≡ record v { units_done = u.units_done } → Conflicts n o s u w → Conflicts n o s (record v { units_done = w.units_done }) w
-conflicts_noted n o s v u w rest c =
-    let same : record v { units_done = w.units_done } ≡ u = ap (λ (notes : Vec UnitsDone Global). record v { units_done = notes }) c.watching.units_done ∙ sym rest in
-    subst (λ (x : WatchLists). Conflicts n o s x w) (sym same) c
-
 -- propagation is complete, and that all unit clauses are true was noted
 pub complete_noted : (o s : SatState) (v u w x : WatchLists) → u ≡ record v { units_done = u.units_done } → AreCovered o u → Running o s u w → length s.tracker.trail ≤ s.qhead → NotesDone s.qhead w x → IsComplete o s (record v { units_done = x.units_done }) x
 complete_noted o s v u w x rest covers run end notes =
@@ -279,25 +273,3 @@ units_later k xs rest o s None is first sets = record {
   set = all_true_parts (made_true (history s)) k xs (all_true_more o s (take k xs) sets.extends first) (subst (AllTrue (made_true (history s))) (is ∙ take_rest xs k) sets.set);
 }
 units_later k xs rest o s (Some n) is first falsified = falsified
-
--- a quiet clause is not falsified
-pub quiet_not_falsified : (s : SatState) (clause : List Signed) → IsState s → IsQuiet (made_true (history s)) clause → IsFalseUnder (made_true (history s)) clause → ⊥
-quiet_not_falsified s clause state (inl q) f = consistent (count_of s) (clauses_of s) (history s) q.0 state.trail q.2 (f q.0 q.1)
-quiet_not_falsified s clause state (inr q) f = both_ways _ q.5 (f q.0 q.2)
-
--- and it forces nothing
-pub quiet_not_forced : (s : SatState) (clause : List Signed) (l : Signed) → IsState s → IsQuiet (made_true (history s)) clause → Forces (made_true (history s)) clause l → ⊥
-quiet_not_forced s clause l state (inl q) f = elim (f.forced.others q.0 q.1) [
-  | inl e ↦ both_ways _ f.undecided.not_true (subst (λ (m : Signed). has (made_true (history s)) m ≡ true) e q.2)
-  | inr e ↦ consistent (count_of s) (clauses_of s) (history s) q.0 state.trail q.2 e
-]
-quiet_not_forced s clause l state (inr q) f = elim (f.forced.others q.0 q.2) [
-  | inl e ↦ elim (f.forced.others q.1 q.3) [ inl g ↦ not_same q.0 q.1 q.4 (e ∙ sym g) | inr g ↦ both_ways _ q.6 g ]
-  | inr e ↦ both_ways _ q.5 e
-]
-
--- the literal that the entry at the propagation head makes false
-pub next_fell : (s : SatState) (e : Entry) (l : Signed) → s.qhead < length s.tracker.trail → before s.tracker.trail (s.qhead + 1) ≡ e ∷ before s.tracker.trail s.qhead → l ≡ record { variable = e.decision.variable; positive = not e.decision.value } → FellAt l s.qhead s
-next_fell s e l within next is =
-    let literal : literal_of e ≡ negation l = sym (negation-negation (literal_of e)) ∙ ap negation (sym is) in
-    record { in_range = within; entry = ap made_true next ∙ ap (λ (x : Signed). x ∷ made_true (before s.tracker.trail s.qhead)) literal }

@@ -271,7 +271,3 @@ module _ {N S : Type 0} (same : S → S → Bool) (exact : IsExact same) (p : Pa
       let (l, a, t) = made_by v clause (implied v (λ r present. rules_sound same exact p root same_name names rules bits chosen rule agrees k r present)) in
       let (s, is, c) = denies l a in
       both_ways _ (true_minus _ (subst (λ m. is_true_at v m ≡ true) is t)) (all s c)
-
-  -- a list of members that is closed lists them all
-  pub listing_is_all : (softs members list : List S) → IsAccepted same p root softs members → IsClosed same p root softs members list → (s : S) → (is_in same p members s ≡ true → is_in same p list s ≡ true) × (is_in same p list s ≡ true → is_in same p members s ≡ true)
-  listing_is_all softs members list a c s = (λ m. a.reached s m list c, c.inside s)

@@ -9,16 +9,6 @@ use Rattle.resolvo_sat.specs.SearchEnd.{IsNeedEncoded, AreEncoded}
 use Rattle.resolvo_sat.specs.Loads.{Deferred, IsParentEncoded, NoneFires}
 
 module _ {N S : Type 0} (same : S → S → Bool) (p : Packages N S) (root : Rules) where
-  -- all is encoded where the root and each member are, and no case that waits holds
-  pub all_encoded : (rules : Rule N S → Type 0) (waiting : Deferred S → Type 0) (members : List S)
-      → ((parent : Option S) → is_member same p root members parent ≡ true → IsParentEncoded same p rules root waiting parent) → NoneFires same p waiting members → AreEncoded same p rules root members
-  all_encoded rules waiting members each none = record {
-    need = λ parent need case m n a holds. elim ((each parent m).need need case n a) [ inl e ↦ e | inr w ↦ absurd (both_ways _ (none _ w) holds) ];
-    limit = λ parent v s m a o. (each parent m).limit v s a o;
-    forbid = λ parent v s m a b. (each parent m).forbid v s a b;
-    unknown = λ s m u. (each (Some s) m).unknown s refl u;
-  }
-
   need_grows : (rules more : Rule N S → Type 0) (parent : Option S) (need : ConditionalRequirement) (case : List VersionSetId) → ((r : Rule N S) → rules r → more r) → IsNeedEncoded same p rules parent need case → IsNeedEncoded same p more parent need case
   need_grows rules more parent need case f (inl r) = inl (f _ r)
   need_grows rules more parent need case f (inr (inl (s, is, g, r))) = inr (inl (s, is, f _ g, f _ r))

@@ -29,14 +29,3 @@ first_digits (suc h) j k = elim (same_or_not (digit j zero) (digit k zero)) [
 
 pub differ_in_digit : (h j k : ℕ) → j < 2 ^ h → k < 2 ^ h → (j ≡ k) ⊎ ((i : ℕ) × (i < h) × (digit j i ≡ not (digit k i)))
 differ_in_digit h j k a b = elim (first_digits h j k) [ inl f ↦ inl (same_digits h j k a b f) | inr d ↦ inr d ]
-
--- solvables whose places have rules for all their digits are the same where the places are, and
--- else differ in a digit
-pub places_differ : {N S : Type 0} (rules : Rule N S → Type 0) (place : S → ℕ) (h : ℕ) (s t : S) → place s < 2 ^ h → place t < 2 ^ h
-    → ((i : ℕ) → i < h → rules (Rule.has_digit s i (digit (place s) i))) → ((i : ℕ) → i < h → rules (Rule.has_digit t i (digit (place t) i))) → (place s ≡ place t → s ≡ t) → (s ≡ t) ⊎ DifferInDigit rules s t
-places_differ rules place h s t a b first second one = elim (differ_in_digit h (place s) (place t) a b) [
-  | inl e ↦ inl (one e)
-  | inr (i, l, d) ↦
-      let other : digit (place t) i ≡ not (digit (place s) i) = sym (twice (digit (place t) i)) ∙ ap not (sym d) in
-      inr (i, digit (place s) i, first i l, subst (λ x. rules (Rule.has_digit t i x)) other (second i l))
-]

@@ -34,12 +34,6 @@ fits_same s t w fits same = record {
 pub walked_none : (s : SatState) (w : WatchLists) → IsWalkedTo 0 s w
 walked_none s w n p is = record { first = λ k f. absurd f; second = λ k f. absurd f }
 
--- the same trail was walked as far
-pub walked_same : (s t : SatState) (k : ℕ) (w : WatchLists) → t.tracker.trail ≡ s.tracker.trail → s.guard_level ≤ t.guard_level → IsWalkedTo k s w → IsWalkedTo k t w
-walked_same s t k w same higher walked n p is =
-    subst (λ (xs : List Entry). GuardsTo t.guard_level (before xs k) (reverse xs) p) (sym same)
-    (guards_more s.guard_level t.guard_level (before s.tracker.trail k) (history s) (history s) p higher (λ l j h. h) (walked n p is))
-
 -- a longer trail was walked as far
 pub walked_more : (s t : SatState) (k : ℕ) (w : WatchLists) (more : List Entry) → t.tracker.trail ≡ s.tracker.trail ++ more → s.guard_level ≤ t.guard_level → k ≤ length s.tracker.trail → IsWalkedTo k s w → IsWalkedTo k t w
 walked_more s t k w more added higher low walked n p is =

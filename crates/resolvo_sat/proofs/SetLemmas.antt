@@ -18,12 +18,6 @@ use Rattle.resolvo_sat.proofs.Readiness.{covered_same, watching_more}
 use Rattle.resolvo_sat.proofs.StartLemmas.{kept_ready, kept_watching}
 use Rattle.resolvo_sat.proofs.CompleteLemmas.{all_true_more, conflicts_later}
 
--- whatever the outcome of a visit, the trail may only have grown
-pub visit_extends : (n : ℕ) (s t : SatState) (r : StartVisit) → IsState s → IsStartVisit n s t r → Extends s t × (t.qhead ≡ s.qhead)
-visit_extends n s t StartVisit.Kept state h = h
-visit_extends n s t (StartVisit.Moved l) state h = subst (λ (u : SatState). Extends s u × (u.qhead ≡ s.qhead)) (sym h) (extends_nothing s state, refl)
-visit_extends n s t StartVisit.Falsified state (same, falls) = subst (λ (u : SatState). Extends s u × (u.qhead ≡ s.qhead)) (sym same) (extends_nothing s state, refl)
-
 -- the same unit clauses, and clauses that watch or are pending
 pub covered_watching : (s : SatState) (v w : WatchLists) → AreCovered s v → SameWatching v w → AreCovered s w
 covered_watching s v w covers same = record {

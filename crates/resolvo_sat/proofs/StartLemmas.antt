@@ -72,9 +72,6 @@ attaches_kept s t v w ready e qhead kept = record {
   qhead = qhead;
 }
 
-pub attaches_nothing : (s : SatState) (w : WatchLists) → IsReady s w → Attaches s s w w
-attaches_nothing s w ready = attaches_kept s s w w ready (extends_nothing s ready.state) refl (kept_nothing w)
-
 pub attaches_more : (s t u : SatState) (v w x : WatchLists) → Attaches s t v w → Attaches t u w x → Attaches s u v x
 attaches_more s t u v w x a b = record { watching = watching_more v w x a.watching b.watching; ready = b.ready; extends = extends_more s t u a.extends b.extends; qhead = b.qhead ∙ a.qhead }
 
@@ -91,10 +88,6 @@ indexed_extends s indexed state = record {
   choices = λ e older present choice. present;
   guard = omega arith;
 }
-
--- the outcome of a visit to a pending clause
-pub visit_kept : (n : ℕ) (s t : SatState) (v : WatchLists) → IsReady s v → Extends s t → t.qhead ≡ s.qhead → Attaches s t v v
-visit_kept n s t v ready e qhead = attaches_kept s t v v ready e qhead (kept_nothing v)
 
 pub visit_falsified : (n : ℕ) (s t : SatState) (v : WatchLists) → IsReady s v → t ≡ s → IsFalsified n s → Conflicts n s t v v
 visit_falsified n s t v ready same falsified =
@@ -120,12 +113,6 @@ false_but_second known clause p free fell m h = elim (free m h) [
     | inr e ↦ inl (sym (same_literal_true _ _ e))
   ]
   | inr f ↦ inr f
-]
-
-pub false_all : (known clause : List Signed) (l : Signed) → AreFalseBut l known clause → has known (negation l) ≡ true → IsFalseUnder known clause
-false_all known clause l others fell m h = elim (others m h) [
-  | inl e ↦ subst (λ (k : Signed). has known (negation k) ≡ true) (sym e) fell
-  | inr f ↦ f
 ]
 
 -- ---- the literals that a clause is to watch

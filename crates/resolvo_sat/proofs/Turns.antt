@@ -24,16 +24,6 @@ use Rattle.resolvo_sat.proofs.Reached.{met_by_literal}
 use Rattle.resolvo_sat.proofs.Ended.{turn_is_right, keeping_without_softs, refusal_is_right}
 
 module _ {N S : Type 0} (same : S → S → Bool) (exact : IsExact same) (same_name : N → N → Bool) (names : IsExact same_name) (p : Packages N S) (root : Rules) (origin : ℕ → Atom N S) (rules : Rule N S → Type 0) (registered : S → Type 0) where
-  -- What a clause asks for is met where a literal of that clause, which is not the root's denial, is true on the trail.
-  pub met_by_clause : (choice : List (Literal (Atom N S)) → Literal (Atom N S) → Type 0) (count : ℕ) (clauses : List SatClause) (h : List Entry) (r : Requirement) (k : Ending.IsAsked same p rules (known_of origin h) r) (clause : List Signed) (l : Signed)
-      → AreCoded origin same p rules registered count clauses → IsTrail count (lists clauses) h → IsRooted h → AreCalledFor origin choice h
-      → Spells origin clause (literals_of same p (Ending.asking same p rules (known_of origin h) r k)) → has clause l ≡ true → has (made_true h) l ≡ true
-      → (s : S) × (meets same p r s ≡ true) × Contains (known_of origin h) (plus (Atom.solvable s))
-  met_by_clause choice count clauses h r k clause l coded t rooted called spells a b = elim (spells.only l a) [
-    | inl e ↦ absurd (consistent count (lists clauses) h (yes root_variable) t (root_known h rooted) (subst (λ x. has (made_true h) x ≡ true) e b))
-    | inr (o, c) ↦ met_by_literal same exact p root rules registered choice (known_of origin h) r k (meaning origin l) (trail_meaning origin same p rules registered count clauses coded choice h t rooted called) c (meaning_in origin (made_true h) l b o)
-  ]
-
   -- the end of a turn over variables is one over atoms
   pub end_meaning : (softs : List S) (count : ℕ) (clauses : List SatClause) (h : List Entry) (members : List S) → IsTurnEnd origin same p rules root registered softs count clauses h members → Ending.IsEnd same p rules root registered softs (known_of origin h) members
   end_meaning softs count clauses h members t = record {

@@ -71,20 +71,6 @@ came xs n d some next = let same : n ≡ n - 1 + 1 = omega arith in ap (before x
 pub denied_next : (s : SatState) (p : ℕ) (d : Entry) (seen : List Bool) → Meets s p d → denied seen (before s.tracker.trail (p + 1)) ≡ denied seen (d ∷ before s.tracker.trail p)
 denied_next s p d seen m = ap (denied seen) m.next
 
-pub walk_skips : (s : SatState) (begun : List Signed) (p : ℕ) (d : Entry) (seen : List Bool) (kept : List Signed) (causes : List ClauseId) → Meets s p d → is_seen seen d ≡ false → Walks s begun (p + 1) seen kept causes → Walks s begun p seen kept causes
-walk_skips s begun p d seen kept causes m unmarked w =
-    let bound : p < length s.tracker.trail = m.in_range in
-    let same : denied seen (before s.tracker.trail (p + 1)) ≡ denied seen (before s.tracker.trail p) =
-    denied_next s p d seen m ∙ ap (λ b. cond b (negation (literal_of d) ∷ denied seen (before s.tracker.trail p)) (denied seen (before s.tracker.trail p))) unmarked in
-    record {
-      in_range = omega arith;
-      derived = subst (λ (ls : List Signed). IsDerived (clauses_of s) (ls ++ kept) (reverse causes)) same w.derived;
-      caused = w.caused;
-      from = subst (λ (ls : List Signed). AreFromClauses s (ls ++ kept)) same w.from;
-      denies = w.denies;
-      rootless = w.rootless;
-    }
-
 -- the literals with the root's before them
 pub with_root : (xs ys : List Signed) (l : Signed) → ((m : Signed) → has xs m ≡ true → has ys m ≡ true) → has (no root ∷ xs) l ≡ true → has (no root ∷ ys) l ≡ true
 with_root xs ys l more h = elim (has-cons (no root) xs l h) [ inl e ↦ has_here (no root) ys l e | inr e ↦ has_later (no root) ys l (more l e) ]
