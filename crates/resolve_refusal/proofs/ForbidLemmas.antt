@@ -1,6 +1,6 @@
 -- The line that forbids a version: it exists where a rule forbids the version, and the step that
 -- names it is right.
-use Rattle.std.proofs.Common.{◌≡◌, ◌==◌, ◌+◌, ◌<◌, ◌⊎◌, inl, inr, ℕ, zero, suc, Bool, true, false, List, [], ◌∷◌, length, Option, Some, None, refl, sym, ap, subst, ◌∙◌, arith}
+use Rattle.std.proofs.Common.{◌≡◌, ◌==◌, ◌+◌, ◌<◌, ◌⊎◌, inl, inr, ℕ, zero, suc, Bool, true, false, List, [], ◌∷◌, length, Option, Some, None, refl, sym, ap, subst, ◌∙◌, arith, get_or-take, length-take}
 use Rattle.std.specs.Prelude.{◌||◌, not, ◌≢◌, unwrap_or, Contains, slice_get}
 use Rattle.std.specs.Bool.{Decides}
 use Rattle.std.specs.List.{list_any, find, flat_map}
@@ -8,7 +8,7 @@ use Rattle.std.specs.Cmp.Lexicographic.{bytes_decides}
 use Rattle.std.proofs.lemmas.Bool.{cases_Bool, false≢true, eq-eqb, eqb-true, or_cases}
 use Rattle.resolvo_text.specs.Line.{Version, Line, Skipped, Listed, Needs, Limits, Unknown, Lock, Favour, Exclude, Many, Wish}
 use Rattle.resolvo_text.specs.Matches.{same_package}
-use Rattle.resolvo_catalogue_core.specs.Grammar.{line_at, owner_of}
+use Rattle.resolvo_catalogue_core.specs.Grammar.{line_at, owner_of, AreCatalogueLines}
 use Rattle.resolvo_catalogue_core.specs.Listed.{listed, version_at}
 use Rattle.resolvo_catalogue_core.specs.Questions.{is_rule, IsOnly, BelongsTo, LineIs, LocksAnother, Excludes, MarksUnknownOf, Forbids}
 use Rattle.resolvo_catalogue_core.specs.declared.rule.VersionNo.{VersionNo}
@@ -342,6 +342,16 @@ no_exclusion catalogue number v word line has at forbidden is_known e m excludes
 pub excluded_behind : (catalogue : List Line) (v : Version) (word : List ℕ) (m : ℕ) → ExcludesAt catalogue v word m → (k : ℕ) × (m ≡ k + 1) × (k < length catalogue)
 excluded_behind catalogue v word zero excludes_it = absurd cc
 excluded_behind catalogue v word (suc k) excludes_it = (k, omega arith, slice_get_within catalogue k (Exclude v word) excludes_it)
+
+-- a version is excluded once
+pub excluded_once : (catalogue : List Line) → AreCatalogueLines catalogue → (v : Version) (word : List ℕ) (m n : ℕ) → ExcludesAt catalogue v word m → ExcludesAt catalogue v word n → m < n → ⊥
+excluded_once catalogue grammatical v word zero n first second before = absurd cc
+excluded_once catalogue grammatical v word (suc i) zero first second before = absurd cc
+excluded_once catalogue grammatical v word (suc i) (suc j) first second before =
+    let lt : i < j = omega (arith, before) in
+    let lt_i : i < length catalogue = slice_get_within catalogue i (Exclude v word) first in
+    let lt_j : j < length catalogue = slice_get_within catalogue j (Exclude v word) second in
+    (grammatical j (Exclude v word) second).1.place.1 word (i, simp length-take (omega arith), get_or-take j catalogue i (Exclude v word) lt ∙ get_or_from_slice_get catalogue i (Exclude v word) (Exclude v word) first)
 
 -- a line of the version marks its needs as unknown with this word, and none before it does
 pub marks_least : (catalogue request : List Line) (version : VersionNo) (v : Version) (word : List ℕ) (found : Option ℕ) → slice_get (listed catalogue) version.0 ≡ Some v → IsLeast found (λ n. IsLineOf catalogue request (Some version) n × IsLineAt catalogue (Unknown word) n) → IsLeast found (MarksUnknownAt catalogue v word)

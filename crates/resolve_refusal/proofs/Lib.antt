@@ -15,3 +15,4 @@ pub mod FitLemmas
 pub mod InstallLemmas
 pub mod NumberLemmas
 pub mod KeptLemmas
+pub mod FirstLemmas

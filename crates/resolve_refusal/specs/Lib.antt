@@ -6,3 +6,5 @@ pub mod Parts
 pub mod StepRules
 pub mod InstallSteps
 pub mod LacksNumbers
+pub mod RuleKeys
+pub mod FirstLines

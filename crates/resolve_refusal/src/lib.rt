@@ -5,11 +5,14 @@
 //! the report, and the judge of `resolvo_judge` accepts it.
 #![tactic(auto)]
 
+mod first_lines;
 mod install;
+mod line_index;
 mod lines;
 mod literals;
 mod named;
 mod report;
+mod rule_keys;
 mod steps;
 
 pub use install::{forbid_step, install_steps};

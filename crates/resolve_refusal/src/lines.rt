@@ -52,13 +52,13 @@ pub(crate) enum WordLine {
 
 /// The numbers of the lines of a place, in rising order: all up to this one, or these.
 #[derive(Clone, Copy)]
-enum PlaceLines<'a> {
+pub(crate) enum PlaceLines<'a> {
     UpTo(u32),
     These(&'a [u32]),
 }
 
 impl PlaceLines<'_> {
-    fn count(self) -> usize
+    pub fn count(self) -> usize
         ensures { result ≡ count_of self.entry }
     {
         match self {
@@ -68,7 +68,7 @@ impl PlaceLines<'_> {
     }
 
     /// The number of the line at this index.
-    fn number(self, index: usize) -> u32
+    pub fn number(self, index: usize) -> u32
         requires { index < count_of self }
         ensures { result ≡ number_at self.entry index }
     {
@@ -81,7 +81,7 @@ impl PlaceLines<'_> {
 
 impl<'a> Texts<'a> {
     /// The lines of a place.
-    fn lines_of(self, place: Option<VersionNo>) -> PlaceLines<'a>
+    pub fn lines_of(self, place: Option<VersionNo>) -> PlaceLines<'a>
         ensures { AreLines result (IsLineOf self.entry.catalogue.now self.entry.request.now.lines
             place) }
     {
@@ -111,7 +111,7 @@ impl<'a> Texts<'a> {
     }
 
     /// Whether line `line` of a place needs these alternatives without a condition.
-    fn needs_plainly(self, place: Option<VersionNo>, line: u32, alternatives: &[Spec]) -> bool
+    pub fn needs_plainly(self, place: Option<VersionNo>, line: u32, alternatives: &[Spec]) -> bool
         ensures { Decides result
             (IsLineAt (text_of self.entry.catalogue.now self.entry.request.now.lines place)
             (content.Needs (specs_of alternatives.now) None) line) }
@@ -154,7 +154,7 @@ impl<'a> Texts<'a> {
 
     /// The number of the first case of line `line` of a place that equals this one, if the line
     /// needs these alternatives.
-    fn case_number(
+    pub fn case_number(
         self,
         alloc: Global,
         place: Option<VersionNo>,
@@ -197,7 +197,7 @@ impl<'a> Texts<'a> {
     }
 
     /// Whether line `line` of a place limits its set to this SPEC.
-    fn limits_to(self, place: Option<VersionNo>, line: u32, spec: &Spec) -> bool
+    pub fn limits_to(self, place: Option<VersionNo>, line: u32, spec: &Spec) -> bool
         ensures { Decides result
             (IsLineAt (text_of self.entry.catalogue.now self.entry.request.now.lines place)
             (content.Limits (spec_of spec.now)) line) }
@@ -212,13 +212,13 @@ impl<'a> Texts<'a> {
     }
 
     /// The first line that forbids the version with this word: one that excludes it, or one that
-    /// marks its needs as unknown.
-    pub fn word_line(self, version: VersionNo, word: &str) -> Option<WordLine>
+    /// marks its needs as unknown. The hint is a line that may exclude it.
+    pub fn word_line(self, version: VersionNo, word: &str, hint: Option<u32>) -> Option<WordLine>
         ensures { (v : content.Version)
             → slice_get (listed self.entry.catalogue.now) version.0 ≡ Some v
             → IsWordLine self.entry.catalogue.now v word.now result }
     {
-        let excludes = self.exclusion_line(version, word);
+        let excludes = self.exclusion_line(version, word, hint);
         let unknown = self.unknown_line(version, word);
         earlier(excludes, unknown)
     }
@@ -252,16 +252,15 @@ impl<'a> Texts<'a> {
         }
     }
 
-    /// The line that excludes the version with this word. Where a lock forbids the version too, all
-    /// lines are searched for it.
-    fn exclusion_line(self, version: VersionNo, word: &str) -> Option<u32>
+    /// The line that excludes the version with this word.
+    fn exclusion_line(self, version: VersionNo, word: &str, hint: Option<u32>) -> Option<u32>
         ensures { (v : content.Version)
             → slice_get (listed self.entry.catalogue.now) version.0 ≡ Some v
             → IsLeast result (ExcludesAt self.entry.catalogue.now v word.now) }
     {
         match forbid_line(self.catalogue, version) {
             None => None,
-            Some(ForbidLine::Lock(_)) => self.first_exclusion(version, word),
+            Some(ForbidLine::Lock(_)) => self.locked_exclusion(version, word, hint),
             Some(ForbidLine::Exclude(line)) => self.this_exclusion(line, version, word),
         }
     }
@@ -278,6 +277,27 @@ impl<'a> Texts<'a> {
             Some(line)
         } else {
             None
+        }
+    }
+
+    /// The line that excludes a version that a lock forbids too, with this word. All lines are
+    /// searched for it where the hint is another line.
+    fn locked_exclusion(self, version: VersionNo, word: &str, hint: Option<u32>) -> Option<u32>
+        ensures { (v : content.Version)
+            → slice_get (listed self.entry.catalogue.now) version.0 ≡ Some v
+            → IsLeast result (ExcludesAt self.entry.catalogue.now v word.now) }
+    {
+        // No version is excluded twice.
+        self.catalogue.lines_are_in_place();
+        match hint {
+            Some(line) => {
+                if self.excludes(line, version, word) {
+                    Some(line)
+                } else {
+                    self.first_exclusion(version, word)
+                }
+            }
+            None => self.first_exclusion(version, word),
         }
     }
 

@@ -6,10 +6,12 @@ ghost use Rattle.resolvo_pool_core.specs.declared.want.Want.TheVariants.{Ids};
 ghost use Rattle.resolvo_report.specs.View.{messages_of, report_of, steps_of};
 ghost use Rattle.resolve_refusal.specs.LacksNumbers.{LacksCaseNumbers, LacksNumbers};
 ghost use Rattle.resolve_refusal.specs.RefusedReport.{IsWritten};
+ghost use Rattle.resolve_refusal.specs.FirstLines.{IsIndex};
 ghost use Rattle.resolve_refusal.specs.StepRules.{NamesRule};
 ghost use Rattle.resolve_refusal.specs.Refusal.{Refutes};
 ghost use Rattle.resolve_refusal.specs.Parts.{IsRefusalOf, IsRefusedBy, report_with};
 
+use crate::line_index::line_index;
 use crate::lines::Texts;
 use crate::named::{Text, named_lines};
 use crate::steps::{MOST_STEPS, Writing};
@@ -105,12 +107,35 @@ pub(crate) fn write_steps(
     ensures ids { IsErrOf result Ids
         → LacksCaseNumbers texts.entry.catalogue.now texts.entry.request.now.lines }
 {
+    let index = line_index(alloc, texts, steps)?;
     let writing = Writing {
         alloc,
         texts,
         provider,
+        index: &index,
     };
-    let mut written = Vec::new(alloc);
+    write_all(writing, steps)
+}
+
+/// The steps of a report, one by one.
+fn write_all(writing: Writing<'_>, steps: &[ProofStep<NameId, SolvableId>]) -> R<Vec<Step>>
+    requires { IsIndex writing.texts.catalogue.now writing.texts.request.now.lines
+        writing.index.now }
+    ensures names_rule { IfOk result
+        (λ v.
+        AllZip
+        (NamesRule writing.entry.texts.catalogue.now writing.entry.texts.request.now.lines
+        writing.entry.provider.now.ids)
+        steps.now (steps_of v.items)) }
+    ensures written { IfOk result
+        (λ v.
+        AllZip (IsWritten writing.entry.texts.catalogue.now writing.entry.provider.now.ids)
+        steps.now (steps_of v.items)) }
+    ensures ids { IsErrOf result Ids
+        → LacksCaseNumbers writing.entry.texts.catalogue.now
+        writing.entry.texts.request.now.lines }
+{
+    let mut written = Vec::new(writing.alloc);
     for step in steps {
         written.push(writing.step(step)?)?;
     }

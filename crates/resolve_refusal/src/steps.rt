@@ -13,8 +13,10 @@ ghost use Rattle.resolvo_catalogue.specs.Known.{spec_at, alternatives_at};
 ghost use Rattle.resolve_refusal.specs.LacksNumbers.{LacksCaseNumbers};
 ghost use Rattle.resolve_refusal.specs.RefusedReport.{version_at, place_at, number_of, HasWord, IsWritten};
 ghost use Rattle.resolve_refusal.specs.Lines.{IsLeast, text_of, IsLineOf, IsLineAt};
+ghost use Rattle.resolve_refusal.specs.FirstLines.{IsIndex};
 ghost use Rattle.resolve_refusal.specs.StepRules.{version_no, IsFirstLine, IsNeedLineOf, NamesNeed, NamesLock, NamesWord, NamesRule};
 
+use crate::line_index::LineIndex;
 use crate::lines::{NeedLine, Texts, WordLine, lock_line};
 use crate::literals::{sorted_literals, version_of};
 use resolvo_catalogue::provider::CatalogueProvider;
@@ -29,18 +31,20 @@ use std::alloc::Global;
 /// The most steps that a report can number.
 pub(crate) const MOST_STEPS: usize = 4_294_967_295;
 
-/// The context for writing steps: the two texts, and the provider of their ids. A rule of no line
-/// is written with line 0, which no text has.
+/// The context for writing steps: the two texts, the provider of their ids, and an index of their
+/// lines. A rule of no line is written with line 0, which no text has.
 #[derive(Clone, Copy)]
 pub(crate) struct Writing<'a> {
     pub alloc: Global,
     pub texts: Texts<'a>,
     pub provider: &'a CatalogueProvider<'a>,
+    pub index: &'a LineIndex,
 }
 
 impl Writing<'_> {
     /// The report's step of a step of the proof.
     pub fn step(self, step: &ProofStep<NameId, SolvableId>) -> R<Step>
+        requires { IsIndex self.texts.catalogue.now self.texts.request.now.lines self.index.now }
         ensures names_rule { IfOk result
             (λ w.
             NamesRule self.entry.texts.catalogue.now self.entry.texts.request.now.lines
@@ -69,6 +73,7 @@ impl Writing<'_> {
 
     /// The step of a rule.
     fn rule(self, rule: &ProofRule<NameId, SolvableId>) -> R<Step>
+        requires { IsIndex self.texts.catalogue.now self.texts.request.now.lines self.index.now }
         ensures names_rule { IfOk result
             (λ w.
             NamesRule self.entry.texts.catalogue.now self.entry.texts.request.now.lines
@@ -127,6 +132,7 @@ impl Writing<'_> {
         requirement: Requirement,
         case: &[VersionSetId],
     ) -> R<Step>
+        requires { IsIndex self.texts.catalogue.now self.texts.request.now.lines self.index.now }
         ensures names_rule { IfOk result
             (λ w.
             NamesNeed self.entry.texts.catalogue.now self.entry.texts.request.now.lines
@@ -155,6 +161,7 @@ impl Writing<'_> {
 
     /// The first line of a parent that needs the requirement without a condition, and its one case.
     fn plain_need(self, parent: Option<SolvableId>, requirement: Requirement) -> R<Option<NeedLine>>
+        requires { IsIndex self.texts.catalogue.now self.texts.request.now.lines self.index.now }
         ensures line { IfOk result
             (IsNeedLineOf self.entry.texts.catalogue.now self.entry.texts.request.now.lines
             self.entry.provider.now.ids parent requirement []) }
@@ -174,6 +181,7 @@ impl Writing<'_> {
         requirement: Requirement,
         case: &[VersionSetId],
     ) -> R<Option<NeedLine>>
+        requires { IsIndex self.texts.catalogue.now self.texts.request.now.lines self.index.now }
         ensures line { IfOk result
             (IsNeedLineOf self.entry.texts.catalogue.now self.entry.texts.request.now.lines
             self.entry.provider.now.ids parent requirement case.now) }
@@ -184,11 +192,19 @@ impl Writing<'_> {
         let alternatives = self.provider.alternatives_of(requirement)?;
         let case = self.specs(case)?;
         let place = self.place_number(parent);
-        self.texts.need_line(self.alloc, place, alternatives.as_slice(), case.as_slice())
+        let first = self.index.first_lines(place);
+        self.texts.first_need(
+            self.alloc,
+            place,
+            alternatives.as_slice(),
+            case.as_slice(),
+            first,
+        )
     }
 
     /// The first line of a parent that needs the requirement without a condition.
     fn plain_line(self, parent: Option<SolvableId>, requirement: Requirement) -> R<Option<u32>>
+        requires { IsIndex self.texts.catalogue.now self.texts.request.now.lines self.index.now }
         ensures line { IfOk result
             (λ found.
             IsLeast found
@@ -205,11 +221,14 @@ impl Writing<'_> {
     {
         let alternatives = self.provider.alternatives_of(requirement)?;
         let place = self.place_number(parent);
-        Ok(self.texts.plain_need_line(place, alternatives.as_slice()))
+        let first = self.index.first_lines(place);
+        self.texts
+            .first_plain_need(self.alloc, place, alternatives.as_slice(), first)
     }
 
     /// The step of a gate, by the first line of the need without condition.
     fn gate(self, parent: SolvableId, requirement: Requirement) -> R<Step>
+        requires { IsIndex self.texts.catalogue.now self.texts.request.now.lines self.index.now }
         ensures gate { IfOk result
             (λ w.
             (line : ℕ)
@@ -234,6 +253,7 @@ impl Writing<'_> {
         version_set: VersionSetId,
         barred: Option<SolvableId>,
     ) -> R<Step>
+        requires { IsIndex self.texts.catalogue.now self.texts.request.now.lines self.index.now }
         ensures names_rule { IfOk result
             (λ w.
             NamesRule self.entry.texts.catalogue.now self.entry.texts.request.now.lines
@@ -259,6 +279,7 @@ impl Writing<'_> {
 
     /// The first line of a parent that limits its set to the version set's SPEC.
     fn limit_line(self, parent: Option<SolvableId>, version_set: VersionSetId) -> R<u32>
+        requires { IsIndex self.texts.catalogue.now self.texts.request.now.lines self.index.now }
         ensures line { IfOk result
             (λ line.
             IsFirstLine self.entry.texts.catalogue.now self.entry.texts.request.now.lines
@@ -268,7 +289,9 @@ impl Writing<'_> {
     {
         let spec = self.provider.spec_of(version_set)?;
         let place = self.place_number(parent);
-        Ok(self.texts.limit_line(place, &spec).unwrap_or(0))
+        let first = self.index.first_lines(place);
+        let line = self.texts.first_limit(self.alloc, place, &spec, first)?;
+        Ok(line.unwrap_or(0))
     }
 
     /// The step that forbids a version by the line that locks another version of its package.
@@ -297,7 +320,8 @@ impl Writing<'_> {
     {
         let number = self.provider.version_of(solvable);
         let word = self.provider.word_of(reason);
-        match self.texts.word_line(number, word) {
+        let hint = self.index.exclusion(number);
+        match self.texts.word_line(number, word, hint) {
             Some(WordLine::Exclude(line)) => Step::Exclude { line },
             Some(WordLine::Unknown(line)) => Step::Unknown { line },
             None => Step::Exclude { line: 0 },

@@ -9,7 +9,7 @@ use Rattle.resolvo_report.specs.Value.{Step as ReadRequest}
 use Rattle.resolvo_report.specs.View.{step_of, steps_of}
 use Rattle.resolve_refusal.specs.RefusedReport.{IsWritten}
 use Rattle.resolve_refusal.specs.StepRules.{NamesRule}
-use Rattle.resolve_refusal.proofs.report.write_steps.Goals as goal
+use Rattle.resolve_refusal.proofs.report.write_all.Goals as goal
 
 pub loop-step-preserved : goal.loop-step-preserved
 loop-step-preserved c =
@@ -22,6 +22,6 @@ loop-step-preserved c =
     let one : (is : ProofStep NameId SolvableId → ReadRequest → Type 0) → AllZip is (take i xs) (steps_of old) → is s (step_of c.in_ok-step.field-0) → AllZip is (take (i + 1) xs) (steps_of c.push.new.self.items) =
     λ is before here. subst (λ (ys : List (ProofStep NameId SolvableId)). AllZip is ys (steps_of c.push.new.self.items)) more
     (subst (λ (zs : List ReadRequest). AllZip is (take i xs ++ s ∷ []) zs) pushed (AllZip-push is (take i xs) (steps_of old) s (step_of c.in_ok-step.field-0) before here)) in (
-      one (NamesRule c.args.texts.catalogue.now c.args.texts.request.now.lines c.args.provider.now.ids) c.loop-step.invariant.0 c.in_ok-step.ensures.names_rule,
-      one (IsWritten c.args.texts.catalogue.now c.args.provider.now.ids) c.loop-step.invariant.1 c.in_ok-step.ensures.written,
+      one (NamesRule c.args.writing.texts.catalogue.now c.args.writing.texts.request.now.lines c.args.writing.provider.now.ids) c.loop-step.invariant.0 c.in_ok-step.ensures.names_rule,
+      one (IsWritten c.args.writing.texts.catalogue.now c.args.writing.provider.now.ids) c.loop-step.invariant.1 c.in_ok-step.ensures.written,
     )
