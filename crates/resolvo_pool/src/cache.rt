@@ -84,7 +84,7 @@ pub struct SolverCache<D: DependencyProvider> {
     alloc: Global,
     lists: IdTable<D::NameId, Candidates<D::SolvableId>, <D::NameId as SolverId>::OptionalIds>,
     matching: HashMap<VersionSetId, Vec<D::SolvableId>>,
-    non_matching: HashMap<VersionSetId, Vec<D::SolvableId>>,
+    non_matching: IdTable<VersionSetId, Vec<D::SolvableId>, Vec<OptionalNumber>>,
     sorted: IdTable<VersionSetId, Vec<D::SolvableId>, Vec<OptionalNumber>>,
     unions: HashMap<VersionSetUnionId, Vec<D::SolvableId>>,
     dependencies: IdTable<D::SolvableId, Dependencies, <D::SolvableId as SolverId>::OptionalIds>,
@@ -106,7 +106,7 @@ impl<D: DependencyProvider> Model for SolverCache<D> {
           provider = c.provider;
           names = keys_of c.lists;
           matching = keys c.matching;
-          non_matching = keys c.non_matching;
+          non_matching = keys_of c.non_matching;
           sorted = lists_of c.sorted;
           unions = keys c.unions;
           solvables = keys_of c.dependencies;
@@ -117,7 +117,7 @@ impl<D: DependencyProvider> Model for SolverCache<D> {
         × IsKept same_set (IsList (matching_in (D.name_of_version_set c.provider)
         (D.candidates_of c.provider) (D.matches c.provider) false)) c.matching.entries
         × IsKept same_set (IsList (matching_in (D.name_of_version_set c.provider)
-        (D.candidates_of c.provider) (D.matches c.provider) true)) c.non_matching.entries
+        (D.candidates_of c.provider) (D.matches c.provider) true)) c.non_matching
         × IsKept same_set (IsSortedList (D.sorts c.provider) D.SolvableId.eq (tried_first
         (D.name_of_version_set c.provider) (D.candidates_of c.provider)) (matching_in
         (D.name_of_version_set c.provider) (D.candidates_of c.provider)
@@ -149,7 +149,7 @@ impl<D: DependencyProvider> SolverCache<D> {
             alloc,
             lists: IdTable::new(alloc),
             matching: HashMap::new(alloc),
-            non_matching: HashMap::new(alloc),
+            non_matching: IdTable::new(alloc),
             sorted: IdTable::new(alloc),
             unions: HashMap::new(alloc),
             dependencies: IdTable::new(alloc),
@@ -327,7 +327,7 @@ impl<D: DependencyProvider> SolverCache<D> {
     pub fn has_non_matching_candidates(&self, version_set: VersionSetId) -> bool
         ensures { result ≡ among same_set self.now.non_matching version_set }
     {
-        self.non_matching.contains_key(&version_set)
+        self.non_matching.contains(version_set)
     }
 
     /// The cached candidates of a version set's package that don't match it.
@@ -337,7 +337,7 @@ impl<D: DependencyProvider> SolverCache<D> {
             ≡ matching_in (D.name_of_version_set self.now.provider)
             (D.candidates_of self.now.provider) (D.matches self.now.provider) true version_set }
     {
-        match self.non_matching.get(&version_set) {
+        match self.non_matching.get(version_set) {
             Some(list) => list.as_slice(),
             None => unreachable!(),
         }
@@ -371,16 +371,17 @@ impl<D: DependencyProvider> SolverCache<D> {
     /// Filters the cached candidates of a version set's package, and caches those that don't match
     /// it.
     fn keep_non_matching(&mut self, version_set: VersionSetId) -> R<()>
-        requires { among D.NameId.eq self.old.names
+        requires listed { among D.NameId.eq self.old.names
             (D.name_of_version_set self.old.provider version_set)
             ≡ true }
+        requires fresh { among same_set self.old.non_matching version_set ≡ false }
         ensures there { OnOk result (among same_set self.new.non_matching version_set ≡ true) }
         ensures extends { Extends D.NameId.eq D.SolvableId.eq self.old self.new }
         ensures err { OnErr result (self.new ≡ self.old) }
         ensures ids { IsErrOf result WantIds → D.may_lack_ids self.old.provider }
     {
         let found = self.filtered(version_set, true)?;
-        self.non_matching.insert(version_set, found)?;
+        self.non_matching.put(version_set, found)?;
         Ok(())
     }
 
