@@ -6,6 +6,7 @@ use Rattle.resolvo_pool_core.specs.declared.id.VersionSetId.{VersionSetId}
 use Rattle.resolvo_pool_core.specs.declared.id.VersionSetUnionId.{VersionSetUnionId}
 use Rattle.resolvo_pool_core.specs.declared.condition.Condition.{Condition}
 use Rattle.resolvo_pool_core.specs.declared.requirement.Requirement.{Requirement}
+use Rattle.resolvo_pool_core.specs.declared.requirement.Requirement.TheVariants.{Single}
 use Rattle.resolvo_pool_core.specs.Provider.{Listing, Needs, matching_in, tried_first, IsTriedFor}
 use Rattle.resolvo_pool_core.specs.Text.{alternatives_of}
 use Rattle.resolvo_pool_core.specs.RuleKeeping.{Packages, is_in, is_outside, meets}
@@ -41,6 +42,10 @@ offered_solvables list = map (λ o. o.solvable) list
 pub record AreOffered {N S : Type 0} (same : S → S → Bool) (p : Packages N S) (r : Requirement) (list : List (Offered N S)) : Type 0 where
   pub matches : (s : S) → is_in same p (offered_solvables list) s ≡ meets same p r s
   pub named : AllByRecursion (λ o. o.name ≡ p.package_of o.solvable) list
+
+-- the list holds the solvables that match the version set
+abbrev pub AreMatching : {N S : Type 0} → (S → S → Bool) → Packages N S → VersionSetId → List S → Type 0
+AreMatching {N} {S} same p v list = (s : S) → is_in same p list s ≡ meets same p (Single v) s
 
 -- The list holds the candidates of the version set's package that don't match it, each with its package.
 pub record AreOutside {N S : Type 0} (same : S → S → Bool) (p : Packages N S) (v : VersionSetId) (list : List (Offered N S)) : Type 0 where

@@ -7,6 +7,7 @@ ghost use Rattle.resolvo_packages.specs.Forbidden.{excluded_by, locked_out, kept
 
 use crate::package_source::{ForbiddenBy, ForbiddenSolvable, Offered, PackageSource};
 use resolvo_pool::cache::{CacheFault, SolverCache};
+use resolvo_pool_core::condition::Condition;
 use resolvo_pool_core::id::{ConditionId, Exact, StringId, VersionSetId};
 use resolvo_pool_core::provider::{
     Candidates, Dependencies, DependencyProvider, KnownDependencies,
@@ -141,6 +142,17 @@ impl<D: DependencyProvider> PackageSource for CachedPackages<D> {
         Ok(offered)
     }
 
+    fn matching(
+        &mut self,
+        version_set: VersionSetId,
+    ) -> Result<Vec<D::SolvableId>, CacheFault<D::Cancel>> {
+        let requirement = Requirement::Single(version_set);
+        self.cache.cache_sorted_candidates(requirement)?;
+        // `?` converts the error
+        let matching = Vec::from_slice(self.alloc, self.cache.sorted_candidates(requirement))?;
+        Ok(matching)
+    }
+
     fn named(&self, requirement: Requirement) -> R<Vec<D::NameId>> {
         match requirement {
             Requirement::Single(version_set) => {
@@ -160,6 +172,13 @@ impl<D: DependencyProvider> PackageSource for CachedPackages<D> {
 
     fn cases(&self, condition: ConditionId) -> R<Vec<Vec<VersionSetId>>> {
         convert_conditions_to_dnf(self.alloc, condition, self.cache.provider())
+    }
+
+    fn lone_set(&self, condition: ConditionId) -> Option<VersionSetId> {
+        match self.cache.provider().resolve_condition(condition) {
+            Condition::Requirement(version_set) => Some(version_set),
+            Condition::Binary(..) => None,
+        }
     }
 
     fn is_many(&mut self, name: D::NameId) -> Result<bool, CacheFault<D::Cancel>> {

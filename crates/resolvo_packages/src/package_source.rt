@@ -1,5 +1,5 @@
 //! A solver's queries about packages, answered by value.
-ghost use Rattle.std.specs.Prelude.{◌≡◌, List, Some, IfOk, IfErr, IsErrOf, IsOkUnless, map};
+ghost use Rattle.std.specs.Prelude.{◌≡◌, ◌∷◌, [], List, Some, IfSome, IfOk, IfErr, IsErrOf, IsOkUnless, map};
 ghost use Rattle.resolvo_pool_core.specs.declared.want.Want.TheVariants.{Memory};
 ghost use Rattle.resolvo_pool_core.specs.declared.id.StringId.{StringId as Reason};
 ghost use Rattle.resolvo_pool_core.specs.declared.provider.Dependencies.TheVariants.{Unknown};
@@ -10,7 +10,7 @@ ghost use Rattle.resolvo_pool_core.specs.RuleKeeping.{Packages, IsLawful, is_man
 ghost use Rattle.resolvo_pool_core.specs.declared.requirement.Requirement.{Requirement};
 ghost use Rattle.resolvo_pool_core.specs.Text.{alternatives_of};
 ghost use Rattle.resolvo_store_core.specs.Cases.{cases, cases_of};
-ghost use Rattle.resolvo_packages.specs.PackageSource.{AreOffered, AreOutside, offered_solvables};
+ghost use Rattle.resolvo_packages.specs.PackageSource.{AreMatching, AreOffered, AreOutside, offered_solvables};
 ghost use Rattle.resolvo_packages.specs.Forbidden.{AreForbidden};
 
 use resolvo_pool::cache::CacheFault;
@@ -113,6 +113,17 @@ pub trait PackageSource {
         ensures cancelled { IfErr result (IsCancelledBy (may_cancel self.old)) }
         ensures ids { IsErrOf result Ids → may_lack_ids self.old };
 
+    /// The candidates that match a version set, in the order in which they are tried.
+    fn matching(
+        &mut self,
+        version_set: VersionSetId,
+    ) -> Result<Vec<Self::SolvableId>, CacheFault<Self::Cancel>>
+        ensures same { self.new ≡ self.old }
+        ensures matching { IfOk result
+            (λ v. AreMatching Self.SolvableId.eq (packages self.old) version_set v.items) }
+        ensures cancelled { IfErr result (IsCancelledBy (may_cancel self.old)) }
+        ensures ids { IsErrOf result Ids → may_lack_ids self.old };
+
     /// The packages of a requirement's version sets.
     fn named(&self, requirement: Requirement) -> R<Vec<Self::NameId>>
         ensures named { IfOk result (λ v. v.items ≡ map (packages self.now).set_package
@@ -129,6 +140,11 @@ pub trait PackageSource {
         ensures cases { IfOk result
             (λ v. cases_of v.items ≡ cases (packages self.now).condition_of condition) }
         ensures refusal { IsOkUnless result Memory };
+
+    /// The version set of a condition that is one, as most are.
+    fn lone_set(&self, condition: ConditionId) -> Option<VersionSetId>
+        ensures { IfSome result
+            (λ v. cases (packages self.now).condition_of condition ≡ (v ∷ []) ∷ []) };
 
     /// Whether a package is marked `many`: its solvables may be chosen side by side.
     fn is_many(&mut self, name: Self::NameId) -> Result<bool, CacheFault<Self::Cancel>>

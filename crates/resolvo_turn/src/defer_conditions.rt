@@ -16,7 +16,7 @@ use resolvo_encoder::encoder::Encoder;
 use resolvo_packages::package_source::{Offered, PackageSource};
 use resolvo_pool::cache::CacheFault;
 use resolvo_pool_core::id::{ConditionId, VersionSetId};
-use resolvo_pool_core::requirement::{ConditionalRequirement, Requirement};
+use resolvo_pool_core::requirement::ConditionalRequirement;
 use resolvo_pool_core::want::R;
 use resolvo_store_core::conditions::DeferredConjunct;
 use std::alloc::Global;
@@ -35,7 +35,6 @@ pub fn solvables_of<N, S: Copy>(alloc: Global, offered: &[Offered<N, S>]) -> R<V
 
 /// A version set, with the candidates that match it.
 fn conjunct_of<A: PackageSource>(
-    alloc: Global,
     answers: &mut A,
     version_set: VersionSetId,
 ) -> Result<DeferredConjunct<A::SolvableId>, CacheFault<A::Cancel>>
@@ -45,8 +44,7 @@ fn conjunct_of<A: PackageSource>(
     ensures cancelled { IfErr result (IsCancelledBy (A.may_cancel answers.old)) }
     ensures ids { IsErrOf result Ids → A.may_lack_ids answers.old }
 {
-    let offered = answers.candidates(Requirement::Single(version_set))?;
-    let matching = solvables_of(alloc, offered.as_slice())?;
+    let matching = answers.matching(version_set)?;
     Ok(DeferredConjunct::new(version_set, matching))
 }
 
@@ -65,7 +63,7 @@ fn conjuncts_of<A: PackageSource>(
 {
     let mut conjuncts = Vec::with_capacity(alloc, case.len())?;
     for version_set in case {
-        let conjunct = conjunct_of(alloc, answers, *version_set)?;
+        let conjunct = conjunct_of(answers, *version_set)?;
         conjuncts.push(conjunct)?;
     }
     Ok(conjuncts)
@@ -121,6 +119,10 @@ pub fn defer_need<A: PackageSource>(
     ensures cancelled { IfErr result (IsCancelledBy (A.may_cancel answers.old)) }
     ensures ids { IsErrOf result Ids → A.may_lack_ids answers.old }
 {
+    if let Some(only) = answers.lone_set(condition) {
+        defer_case(alloc, answers, encoding, parent, need, &[only])?;
+        return Ok(());
+    }
     let cases = answers.cases(condition)?;
     defer_cases(alloc, answers, encoding, parent, need, cases.as_slice())?;
     Ok(())
