@@ -27,11 +27,12 @@ use Rattle.resolvo_state.proofs.Positions.{get_contains, prefix_same}
 use Rattle.resolvo_state.proofs.Rules.{rule_at_kind}
 use Rattle.resolvo_encoder.specs.Encoded.{IsCandidate, IsRequiresRule, IsEncoding, IsWaiting, IsNamed, IsPending}
 use Rattle.resolvo_encoder.specs.Encoded as E
-use Rattle.resolvo_encoder.specs.AtLeastOneClauses.{Admits, AreWaiting, PlacesAll, PlacesQueued, TracksAtLeastOne, CoversAll, CoversQueued}
+use Rattle.resolvo_encoder.specs.AtLeastOneClauses.{AreThose, Admits, AreWaiting, PlacesAll, PlacesQueued, TracksAtLeastOne, CoversAll, CoversQueued}
 use Rattle.resolvo_encoder.specs.Steps.{IsBuilt, IsListed}
 use Rattle.resolvo_encoder.specs.declared.encoder.Encoder.{Encoder}
 use Rattle.resolvo_encoder.specs.declared.encoder.EncodedOnce.{EncodedOnce}
 use Rattle.resolvo_encoder.proofs.BuildLemmas.{seen_same, clauses_grow}
+use Rattle.resolvo_encoder.proofs.CaseLiterals.{AreOf, of_none, of_more, those_of}
 use Rattle.resolvo_encoder.proofs.EncodesLemmas.{built_recorded, queued_recorded}
 use Rattle.resolvo_encoder.proofs.EnrollLemmas.{enrolled}
 use Rattle.resolvo_encoder.proofs.RequireLemmas.{AddedClause, Carries, carried, candidate_grows, recorded_grows, cases_keep, some_one, queued_keeps, gates_keep, NoneAsks, fixed_keeps, asked_keeps, within_keeps, encoded_keeps, cased_keeps, guards_keep, digit_added, extends_then, extends_same, set_stays, marks_stay}
@@ -399,7 +400,7 @@ waiting_are {N} {S} e members list sorted tied queued registered h turned = reco
 }
 
 -- a list of one value is that of its first
-only_first : {A : Type 0} (xs : List A) (d : A) → length xs ≡ 1 → xs ≡ slice_index_or xs 0 d ∷ []
+pub only_first : {A : Type 0} (xs : List A) (d : A) → length xs ≡ 1 → xs ≡ slice_index_or xs 0 d ∷ []
 only_first [] d one = absurd (omega arith)
 only_first (x ∷ []) d one = refl
 only_first (x ∷ y ∷ xs) d one = absurd (omega arith)
@@ -411,3 +412,12 @@ lone_waits {N} {S} e members d s tied queued registered one first is =
     let atoms = e.coding.atoms.keys in
     let these : members ≡ d ∷ [] = only_first members d one ∙ ap (λ (m : Member N). m ∷ []) (sym first) in
     waiting_are e members list list tied queued registered (subst (λ (us : List (Member N)). AreMembers atoms us list) (sym these) (members_more atoms [] [] d s is (members_none atoms))) (IsPermutation-refl list)
+
+-- the registered solvable of a package is the only one
+pub lone_those : {N S : Type 0} (e : Encoder N S) (name : N) (vs : List VariableId) (d : VariableId) (s : S) → AreTied e.registry e.coding → ((v : VariableId) → Contains vs v → IsInTracker e.registry name v) → ((v : VariableId) → IsInTracker e.registry name v → Contains vs v)
+    → length vs ≡ 1 → solvable_of e.coding.atoms.keys (slice_index_or vs 0 d).0 ≡ Some s → AreThose e name (record { solvable = s; name = name } ∷ [])
+lone_those {N} {S} e name vs d s tied tracked all one is =
+    let list : List (Offered N S) = record { solvable = s; name = name } ∷ [] in
+    let atoms = e.coding.atoms.keys in
+    let first = slice_index_or vs 0 d in
+    those_of e name vs list tied tracked all (subst (λ (us : List VariableId). AreOf atoms us name list) (sym (only_first vs d one)) (of_more atoms [] name [] first s is (of_none atoms name)))

@@ -52,6 +52,12 @@ module _ {N S : Type 0} where
       pub only : (o : Offered N S) → Contains added o → Contains offered o
       pub adds : AddsAtLeastOne added old new
 
+    -- The registered solvables of the package have at-least-one clauses, but for those that wait.
+    pub record AddsThose (name : N) (old new : Encoder N S) : Type 0 where
+      pub list : List (Offered N S)
+      pub those : AreThose old name list
+      pub adds : AddsAtLeastOne list old new
+
     -- The package is recorded, and its registered solvables have at-least-one clauses, or wait.
     pub record TracksAtLeastOne (name : N) (old new : Encoder N S) : Type 0 where
       pub built : IsBuilt new

@@ -1,13 +1,13 @@
 //! At-least-one clauses for the packages of conditions: a chosen solvable makes its package's at-
 //! least-one variable true. The literals of a case are then false where it holds.
-ghost use Rattle.std.specs.Prelude.{◌≡◌, ◌<◌, ◌∷◌, [], OnOk, IfOk, IsErrOf, IsOkUnless};
+ghost use Rattle.std.specs.Prelude.{◌≡◌, ◌<◌, ◌∷◌, [], OnOk, IfOk, IfSome, IsErrOf, IsOkUnless};
 ghost use Rattle.resolvo_pool_core.specs.declared.want.Want.TheVariants.{Memory, Ids};
 ghost use Rattle.resolvo_store_core.specs.Clauses.{no, candidate_literals};
 ghost use Rattle.resolvo_sat.specs.RuleClauses.{Rule};
 ghost use Rattle.resolvo_state.specs.SolverState.{LacksNumber};
 ghost use Rattle.resolvo_encoder.specs.Steps.{IsBuilt};
 ghost use Rattle.resolvo_encoder.specs.ClauseRules.{EncodesRules};
-ghost use Rattle.resolvo_encoder.specs.AtLeastOneClauses.{AreThose, AddsAtLeastOne, TracksAtLeastOne, NamesPackage, CaseLiterals};
+ghost use Rattle.resolvo_encoder.specs.AtLeastOneClauses.{AreThose, AddsAtLeastOne, AddsThose, TracksAtLeastOne, NamesPackage, CaseLiterals};
 
 use crate::conditions::ConditionSet;
 use crate::encoder::{Encoder, add_key, add_value, push_candidates};
@@ -67,6 +67,19 @@ impl<N: Copy + Exact + Hash + Debug + Drop, S: Copy + Exact + Hash + Debug> Enco
         Ok(())
     }
 
+    /// The registered solvable of a package, where it is the only one.
+    fn lone_registered(&self, name: N) -> Option<Offered<N, S>>
+        requires { IsBuilt self.now }
+        ensures { IfSome result (λ o. AreThose self.now name (o ∷ [])) }
+    {
+        let variables = self.registry.variables(name);
+        if variables.len() != 1 {
+            return None;
+        }
+        let solvable = self.coding.solvable(variables[0])?;
+        Some(Offered { solvable, name })
+    }
+
     /// The registered solvables of a package, with it.
     fn registered(&self, alloc: Global, name: N) -> R<Vec<Offered<N, S>>>
         requires { IsBuilt self.now }
@@ -83,6 +96,21 @@ impl<N: Copy + Exact + Hash + Debug + Drop, S: Copy + Exact + Hash + Debug> Enco
         Ok(registered)
     }
 
+    /// Adds the at-least-one clauses of a package's registered solvables.
+    fn add_registered(&mut self, alloc: Global, name: N) -> R<()>
+        requires { IsBuilt self.old }
+        ensures added { OnOk result (AddsThose S.eq name self.old self.new) }
+        ensures ids { IsErrOf result Ids → LacksNumber self.new.coding }
+    {
+        if let Some(one) = self.lone_registered(name) {
+            self.add_at_least_one(one)?;
+            return Ok(());
+        }
+        let registered = self.registered(alloc, name)?;
+        self.add_at_least_ones(registered.as_slice())?;
+        Ok(())
+    }
+
     /// Records a condition's package, and adds the at-least-one clauses of its registered
     /// solvables.
     pub(crate) fn track_at_least_one(&mut self, alloc: Global, name: N) -> R<()>
@@ -93,8 +121,7 @@ impl<N: Copy + Exact + Hash + Debug + Drop, S: Copy + Exact + Hash + Debug> Enco
         if self.recorded.at_least_one.contains(name) {
             return Ok(());
         }
-        let registered = self.registered(alloc, name)?;
-        self.add_at_least_ones(registered.as_slice())?;
+        self.add_registered(alloc, name)?;
         add_value(&mut self.recorded.at_least_one, name)?;
         Ok(())
     }
@@ -132,12 +159,28 @@ impl<N: Copy + Exact + Hash + Debug + Drop, S: Copy + Exact + Hash + Debug> Enco
         Ok(literals)
     }
 
-    /// The same for each version set of a case.
+    /// The same for each version set of a case. Most have one.
     pub(crate) fn add_each_at_least_one(
         &mut self,
         alloc: Global,
         sets: &[ConditionSet<N, S>],
     ) -> R<Vec<Literal>>
+        requires { IsBuilt self.old }
+        ensures at_least_one { IfOk result (λ v. CaseLiterals S.eq sets.now v.items self.old self.new) }
+        ensures ids { IsErrOf result Ids → LacksNumber self.new.coding }
+    {
+        if sets.len() == 1 {
+            // split for the prover: error and answer
+            let literals = self.conjunct_literals(alloc, &sets[0])?;
+            return Ok(literals);
+        }
+        // split for the prover: error and answer
+        let literals = self.join_literals(alloc, sets)?;
+        Ok(literals)
+    }
+
+    /// The literals of all version sets of a case, in a list of their own.
+    fn join_literals(&mut self, alloc: Global, sets: &[ConditionSet<N, S>]) -> R<Vec<Literal>>
         requires { IsBuilt self.old }
         ensures at_least_one { IfOk result (λ v. CaseLiterals S.eq sets.now v.items self.old self.new) }
         ensures ids { IsErrOf result Ids → LacksNumber self.new.coding }

@@ -139,21 +139,23 @@ impl<N: Copy + Exact + Hash + Debug + Drop, S: Copy + Exact + Hash + Debug> Enco
         ensures covered { OnOk result (CoversQueued S.eq self.old self.new) }
         ensures ids { IsErrOf result Ids → LacksNumber self.new.coding }
     {
-        let mut names = Vec::new(alloc);
-        names.extend_from_slice(self.recorded.queued.as_slice())?;
-        self.cover_each(alloc, names.as_slice())?;
+        self.cover_each(alloc)?;
         self.recorded.queued.clear();
         Ok(())
     }
 
-    /// Records each of these packages, and adds their at-least-one clauses.
-    fn cover_each(&mut self, alloc: Global, names: &[N]) -> R<()>
+    /// Records each package of a new case, and adds its at-least-one clauses.
+    fn cover_each(&mut self, alloc: Global) -> R<()>
         requires { IsBuilt self.old }
-        ensures covered { OnOk result (CoversAll S.eq names.now self.old self.new) }
+        ensures covered { OnOk result
+            (CoversAll S.eq self.old.recorded.queued.keys self.old self.new) }
         ensures ids { IsErrOf result Ids → LacksNumber self.new.coding }
     {
-        for name in names {
-            self.track_at_least_one(alloc, *name)?;
+        let count = self.recorded.queued.len();
+        for place in 0..count {
+            let queued = self.recorded.queued.as_slice();
+            let name = queued[place];
+            self.track_at_least_one(alloc, name)?;
         }
         Ok(())
     }

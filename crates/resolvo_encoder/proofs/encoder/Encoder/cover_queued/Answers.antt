@@ -1,4 +1,4 @@
-use Rattle.std.proofs.Common.{◌≡◌, ◌++◌, List, refl, ◌∙◌, ap}
+use Rattle.std.proofs.Common.{refl}
 use Rattle.resolvo_sat.specs.RuleClauses.{IsExact}
 use Rattle.resolvo_encoder.proofs.PlaceLemmas.{covers_end}
 use Rattle.resolvo_encoder.proofs.encoder.Encoder.cover_queued.Goals as goal
@@ -7,6 +7,4 @@ pub returns-clause-covered : goal.returns-clause-covered
 returns-clause-covered g c =
     let exact : IsExact g.S.PartialEq.eq = record { one = g.met.S.Exact.exact; own = g.met.S.Eq.laws.refl } in
     let middle = c.cover_each.new.self in
-    let names : c.as_slice-2.result.now ≡ c.args.self.now.recorded.queued.keys =
-    c.as_slice-2.ensures.value ∙ c.in_ok-extend_from_slice.ensures.items ∙ ap (λ (xs : List _). xs ++ c.as_slice.result.now) c.new-names.ensures.items ∙ c.as_slice.ensures.keys in
-    covers_end g.S.PartialEq.eq exact c.as_slice-2.result.now c.args.self.now middle (record middle.recorded { queued = c.clear.new.self }) names c.in_ok-cover_each.ensures.covered refl c.clear.ensures.empty
+    covers_end g.S.PartialEq.eq exact c.args.self.now.recorded.queued.keys c.args.self.now middle (record middle.recorded { queued = c.clear.new.self }) refl c.in_ok-cover_each.ensures.covered refl c.clear.ensures.empty

@@ -1,6 +1,4 @@
-use Rattle.std.proofs.Common.{List, refl, subst}
-use Rattle.resolvo_packages.specs.declared.package_source.Offered.{Offered}
-use Rattle.resolvo_encoder.specs.AtLeastOneClauses.{AddsAtLeastOne}
+use Rattle.std.proofs.Common.{refl}
 use Rattle.resolvo_sat.specs.RuleClauses.{IsExact}
 use Rattle.resolvo_encoder.proofs.CaseLiterals.{package_known, package_tracked}
 use Rattle.resolvo_encoder.proofs.Parents.{prefix_contains}
@@ -14,6 +12,6 @@ returns-then-contains-clause-at_least_one g c =
 pub returns-clause-at_least_one : goal.returns-clause-at_least_one
 returns-clause-at_least_one g c =
     let exact : IsExact g.S.PartialEq.eq = record { one = g.met.S.Exact.exact; own = g.met.S.Eq.laws.refl } in
-    package_tracked g.S.PartialEq.eq exact c.args.name c.in_ok-registered.registered.items c.args.self.now c.add_at_least_ones.new.self _ c.in_ok-registered.ensures.those
-    (subst (λ (xs : List (Offered _ _)). AddsAtLeastOne g.S.PartialEq.eq xs c.args.self.now c.add_at_least_ones.new.self) c.as_slice.ensures.value c.in_ok-add_at_least_ones.ensures.added) c.in_ok-add_value.ensures.only
+    let added = c.in_ok-add_registered.ensures.added in
+    package_tracked g.S.PartialEq.eq exact c.args.name added.list c.args.self.now c.add_registered.new.self _ added.those added.adds c.in_ok-add_value.ensures.only
     (λ n h. prefix_contains _ _ n c.in_ok-add_value.ensures.prefix h) c.in_ok-add_value.ensures.present refl

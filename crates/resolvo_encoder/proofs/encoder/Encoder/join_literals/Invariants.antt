@@ -1,6 +1,6 @@
 use Rattle.std.proofs.Common.{take}
 use Rattle.resolvo_encoder.specs.AtLeastOneClauses.{CaseLiterals}
-use Rattle.resolvo_encoder.proofs.encoder.Encoder.add_each_at_least_one.Given as goal
+use Rattle.resolvo_encoder.proofs.encoder.Encoder.join_literals.Given as goal
 
 -- these are the literals of the version sets so far
 abbrev pub invariant-loop-set : goal.invariant-loop-set
