@@ -2,8 +2,7 @@
 use Rattle.std.proofs.Common.{◌≡◌, ℕ, suc, ◌+◌, ◌<◌, ◌≤◌, ◌⊎◌, inl, inr, Bool, true, false, List, [], ◌∷◌, ◌++◌, length, get_or, Option, Some, None, Vec, Global, is_some, refl, sym, ◌∙◌, ap, subst, arith, length-append}
 use Rattle.resolvo_encoder.specs.declared.encoder.EncodedOnce.{EncodedOnce}
 use Rattle.std.specs.Prelude.{Contains, slice_get}
-use Rattle.std.specs.List.{list_any}
-use Rattle.std.proofs.lemmas.Bool.{both_ways, cases_Bool}
+use Rattle.std.proofs.lemmas.Bool.{cases_Bool}
 use Rattle.std.proofs.lemmas.Option.{slice_get-get_or}
 use Rattle.resolvo_pool_core.specs.ByRequirement.{slot_of}
 use Rattle.resolvo_pool_core.specs.declared.id.DenseId.{DenseId}
@@ -29,7 +28,7 @@ use Rattle.resolvo_packages.specs.PackageSource.{offered_solvables, AreOffered}
 use Rattle.resolvo_sat.specs.RuleClauses.{IsExact, Rule, case_holds, case_literals, cases_for, AreMatched}
 use Rattle.resolvo_sat.specs.Numbered.{Spells}
 use Rattle.resolvo_sat.specs.SearchEnd.{IsNeedEncoded}
-use Rattle.resolvo_sat.proofs.Lists.{contains_none, contains_one, contains_parts, contained_any, all_contained, any_contained, contains_map}
+use Rattle.resolvo_sat.proofs.Lists.{contains_none, contains_one, contains_parts, all_contained, any_contained, contains_map}
 use Rattle.resolvo_sat.proofs.Members.{in_contained, contained_in}
 use Rattle.resolvo_state.specs.declared.atom.ProofAtom.TheVariants.{Solvable}
 use Rattle.resolvo_state.specs.Kinds.{Kind}
@@ -72,10 +71,6 @@ deferred_last xs x ys is = subst (λ zs. slice_get zs (length xs) ≡ Some x) (s
 -- a value at a place is in the list
 pub looked_up : {X : Type 0} (xs ys : List X) (i : ℕ) (x : X) → xs ≡ ys → i < length xs → x ≡ get_or xs i x → slice_get ys i ≡ Some x
 looked_up xs ys i x same below is = subst (λ zs. slice_get zs i ≡ Some x) same (slice_get-get_or xs i x below ∙ ap Some (sym is))
-
--- a value that isn't found in a list isn't in it
-pub not_contained : {X : Type 0} (eq : X → X → Bool) (xs : List X) (x : X) → eq x x ≡ true → list_any (eq x) xs ≡ false → Contains xs x → ⊥
-not_contained eq xs x own none h = both_ways _ none (contained_any (eq x) x xs h own)
 
 -- none of these, nor of one more
 pub none_more : {X : Type 0} (P : X → Type 0) (xs : List X) (x : X) (ys : List X) → ys ≡ xs ++ x ∷ [] → ((y : X) → Contains xs y → P y) → P x → (y : X) → Contains ys y → P y

@@ -22,3 +22,4 @@ pub mod MatchLemmas
 pub mod PlaceLemmas
 pub mod FireLemmas
 pub mod RecordLemmas
+pub mod FlagLemmas

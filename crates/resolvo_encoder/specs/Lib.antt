@@ -8,3 +8,4 @@ pub mod TurnLevels
 pub mod Progress
 pub mod SoftRequirement
 pub mod Base
+pub mod FiredCases

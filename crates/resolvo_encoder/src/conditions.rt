@@ -14,7 +14,7 @@ ghost use Rattle.resolvo_encoder.specs.Steps.{IsBuilt, Extends, AddsCandidates, 
 ghost use Rattle.resolvo_encoder.specs.Conditions.{case_of, sets_case, IsDeferred, AreConjuncts, AreSets, Defers, Fires, waiting_count, IsWaiting, IsTrueNow, IsOneChosen, IsMetNow, IsSpent, IsKeptOut};
 ghost use Rattle.resolvo_encoder.specs.declared.encoder.Deferred.{Deferred as Kept};
 
-use crate::encoder::{Deferred, Encoder, add_key};
+use crate::encoder::{Deferred, Encoder};
 use resolvo_packages::package_source::Offered;
 use resolvo_pool_core::id::{Exact, VersionSetId};
 use resolvo_pool_core::requirement::ConditionalRequirement;
@@ -90,7 +90,7 @@ impl<N: Copy + Exact + Hash + Debug + Drop, S: Copy + Exact + Hash + Debug> Enco
         match self.deferred.get(index) {
             None => false,
             Some(deferred) => {
-                !self.fired.contains(&index) && self.has_each(deferred.conjuncts.as_slice())
+                !self.fired.contains(index) && self.has_each(deferred.conjuncts.as_slice())
             }
         }
     }
@@ -215,8 +215,8 @@ impl<N: Copy + Exact + Hash + Debug + Drop, S: Copy + Exact + Hash + Debug> Enco
         ensures built { OnOk result (IsBuilt self.old → IsBuilt self.new) }
         ensures refusal { IsOkUnless result Memory }
     {
-        add_key(&mut self.fired, index)?;
-        // A set has fewer than 2^64 values.
+        self.fired.insert(index)?;
+        // They are fewer than 2^64.
         let _count = self.fired.len();
         Ok(())
     }

@@ -23,6 +23,7 @@ ghost use Rattle.resolvo_state.specs.Kinds.{Kind};
 ghost use Rattle.resolvo_state.specs.SolverState.{IsBegun, IsCoding, LacksNumber};
 ghost use Rattle.resolvo_encoder.specs.Steps.{Fixes, EncodesNeed, IsBuilt, Needs, Extends, NeedsDirectly, RequiresAgain, UsesGate, is_gated, Opens, AddsCandidates, IsBegunEncoding, AddsParent, IsNextEncoded, LacksNumberFor};
 
+use crate::fired_cases::FiredCases;
 use indexmap::IndexSet;
 use resolvo_decide::decide_queue::DecideQueue;
 use resolvo_packages::package_source::Offered;
@@ -108,7 +109,7 @@ pub struct Encoder<N: Copy + Exact + Hash, S: Copy + Exact + Hash> {
     /// The cases of conditional requirements, in the order of their parents.
     pub deferred: Vec<Deferred<S>>,
     /// The places of the encoded cases.
-    pub fired: IndexSet<usize>,
+    pub fired: FiredCases,
     /// The literals of the requires clause that was added last.
     pub literals: Vec<Literal>,
 }
@@ -164,7 +165,7 @@ fn begun<N: Copy + Exact + Hash + Debug, S: Copy + Exact + Hash + Debug>(
         parents,
         encoded: 0,
         deferred: Vec::new(alloc),
-        fired: IndexSet::new(alloc),
+        fired: FiredCases::new(alloc),
         literals: Vec::new(alloc),
     }
 }

@@ -5,6 +5,7 @@
 pub mod at_least_one;
 pub mod conditions;
 pub mod encoder;
+pub mod fired_cases;
 pub mod forbid;
 pub mod matches;
 pub mod place;

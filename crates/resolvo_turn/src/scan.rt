@@ -66,7 +66,7 @@ impl<N: Copy + Exact + Hash + Debug> Scan<N> {
     /// Forgets the cases that may hold: they are scanned. Those that became clauses wait no longer.
     pub(crate) fn end_touched<S: Copy + Exact + Hash + Debug>(&mut self, encoding: &Encoder<N, S>) {
         for place in &self.touched {
-            if encoding.fired.contains(place) {
+            if encoding.fired.contains(*place) {
                 self.conditions.end_case(condition_at(encoding, *place));
             }
         }
@@ -137,7 +137,7 @@ pub(crate) fn find_touched<A: PackageSource>(
     }
     let mut ranked = Vec::new(alloc);
     for place in &scan.touched {
-        if !encoding.fired.contains(place) {
+        if !encoding.fired.contains(*place) {
             let rank = scan.conditions.rank(condition_at(encoding, *place));
             ranked.push((rank, *place))?;
         }
@@ -157,7 +157,7 @@ fn drop_spent<N: Copy + Exact + Hash + Debug, S: Copy + Exact + Hash + Debug>(
     touched: &mut Vec<usize>,
 ) {
     if let Some(place) = touched.first() {
-        if encoding.fired.contains(place) {
+        if encoding.fired.contains(*place) {
             touched.clear();
         }
     }
@@ -172,7 +172,7 @@ fn list<A: PackageSource>(
     ensures { IsOkUnless result Memory }
 {
     for place in scan.listed..encoding.deferred.len() {
-        if !encoding.fired.contains(&place) {
+        if !encoding.fired.contains(place) {
             for conjunct in &encoding.deferred[place].conjuncts {
                 let name = answers.set_package(conjunct.version_set());
                 scan.named.add(name, place)?;
