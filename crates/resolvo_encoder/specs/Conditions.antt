@@ -18,7 +18,6 @@ pub use Rattle.resolvo_encoder.specs.Encoded.{IsCaseEncoded}
 use Rattle.resolvo_encoder.specs.Encoded.{IsEncoding}
 use Rattle.resolvo_packages.specs.PackageSource.{offered_solvables}
 use Rattle.resolvo_encoder.specs.declared.conditions.ConditionSet.{ConditionSet}
-use Rattle.resolvo_encoder.specs.declared.conditions.DeferredRequirement.{DeferredRequirement}
 use Rattle.resolvo_encoder.specs.declared.encoder.Deferred.{Deferred}
 use Rattle.resolvo_encoder.specs.declared.encoder.Encoder.{Encoder}
 
@@ -39,14 +38,6 @@ module _ {N S : Type 0} where
   -- the number of deferred cases that haven't fired
   abbrev pub waiting_count : Encoder N S → ℕ
   waiting_count e = length e.deferred.items - length e.fired.keys
-
-  -- the deferred case at the place
-  pub record IsWaiting (e : Encoder N S) (index : ℕ) (w : DeferredRequirement S) : Type 0 where
-    pub deferred : Deferred S
-    pub at : slice_get e.deferred.items index ≡ Some deferred
-    pub parent : w.parent ≡ deferred.parent
-    pub need : w.need ≡ deferred.need
-    pub case : w.case.items ≡ case_of deferred.conjuncts.items
 
   -- the parent is a solvable outside one of these version sets, whose package isn't marked `many`
   abbrev pub IsKeptOut : List (ConditionSet N S) → Option S → Type 0

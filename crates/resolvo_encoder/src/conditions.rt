@@ -11,7 +11,7 @@ ghost use Rattle.resolvo_sat.specs.RuleClauses.{cases_for, AreMatched};
 ghost use Rattle.resolvo_sat.specs.SearchEnd.{IsNeedEncoded};
 ghost use Rattle.resolvo_encoder.specs.Encoded.{rules_of, IsPrepared, IsEncoding};
 ghost use Rattle.resolvo_encoder.specs.Steps.{IsBuilt, Extends, AddsCandidates, LacksNumberFor};
-ghost use Rattle.resolvo_encoder.specs.Conditions.{case_of, sets_case, IsDeferred, AreConjuncts, AreSets, Defers, Fires, waiting_count, IsWaiting, IsTrueNow, IsOneChosen, IsMetNow, IsSpent, IsKeptOut};
+ghost use Rattle.resolvo_encoder.specs.Conditions.{case_of, sets_case, IsDeferred, AreConjuncts, AreSets, Defers, Fires, waiting_count, IsTrueNow, IsOneChosen, IsMetNow, IsSpent, IsKeptOut};
 ghost use Rattle.resolvo_encoder.specs.declared.encoder.Deferred.{Deferred as Kept};
 
 use crate::encoder::{Deferred, Encoder};
@@ -39,14 +39,6 @@ pub struct ConditionSet<N, S> {
     pub many: bool,
     pub outside: Vec<Offered<N, S>>,
     pub matching: Vec<Offered<N, S>>,
-}
-
-/// A deferred case.
-#[derive(Drop)]
-pub struct DeferredRequirement<S> {
-    pub parent: Option<S>,
-    pub need: ConditionalRequirement,
-    pub case: Vec<VersionSetId>,
 }
 
 impl<N: Copy + Exact + Hash + Debug + Drop, S: Copy + Exact + Hash + Debug> Encoder<N, S> {
@@ -142,18 +134,11 @@ impl<N: Copy + Exact + Hash + Debug + Drop, S: Copy + Exact + Hash + Debug> Enco
     }
 
     /// The case at this place.
-    pub fn waiting(&self, alloc: Global, index: usize) -> R<DeferredRequirement<S>>
+    pub fn waiting(&self, index: usize) -> &Deferred<S>
         requires { index < length self.now.deferred.items }
-        ensures waiting { IfOk result (λ w. IsWaiting self.now index w) }
-        ensures refusal { IsOkUnless result Memory }
+        ensures { slice_get self.now.deferred.items index ≡ Some result.now }
     {
-        let deferred = &self.deferred[index];
-        let case = version_sets_of(alloc, deferred.conjuncts.as_slice())?;
-        Ok(DeferredRequirement {
-            parent: deferred.parent,
-            need: deferred.need,
-            case,
-        })
+        &self.deferred[index]
     }
 
     /// Encodes a case: if each of its version sets has a chosen match, one of the offered
@@ -277,18 +262,6 @@ fn is_offered<N, S: Copy + Exact + Hash + Debug>(offered: &[Offered<N, S>], solv
         }
     }
     false
-}
-
-/// The version sets of a deferred case.
-fn version_sets_of<S>(alloc: Global, conjuncts: &[DeferredConjunct<S>]) -> R<Vec<VersionSetId>>
-    ensures case { IfOk result (λ v. v.items ≡ case_of conjuncts.now) }
-    ensures refusal { IsOkUnless result Memory }
-{
-    let mut case = Vec::new(alloc);
-    for conjunct in conjuncts {
-        case.push(conjunct.version_set())?;
-    }
-    Ok(case)
 }
 
 /// The version sets of a case that fires.

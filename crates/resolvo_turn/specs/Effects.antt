@@ -1,6 +1,6 @@
 -- What a call that encodes does, over a source of packages with these ghost members. In each an
 -- encoding in order stays one, and has more.
-use Rattle.std.specs.Prelude.{Bool, List, [], Option, Some, Contains}
+use Rattle.std.specs.Prelude.{◌≡◌, ℕ, Bool, List, [], slice_get, Option, Some, Contains}
 use Rattle.resolvo_pool_core.specs.declared.id.VersionSetId.{VersionSetId}
 use Rattle.resolvo_pool_core.specs.declared.requirement.ConditionalRequirement.{ConditionalRequirement}
 use Rattle.resolvo_pool_core.specs.declared.requirement.Requirement.{Requirement}
@@ -10,8 +10,10 @@ use Rattle.resolvo_packages.specs.declared.package_source.PackageSource as sourc
 use Rattle.resolvo_sat.specs.RuleClauses.{IsForbiddenIn, IsForbidden, cases_for, AreMatched}
 use Rattle.resolvo_sat.specs.SearchEnd.{IsNeedEncoded}
 use Rattle.resolvo_encoder.specs.declared.conditions.ConditionSet.{ConditionSet}
+use Rattle.resolvo_encoder.specs.declared.encoder.Deferred.{Deferred}
 use Rattle.resolvo_encoder.specs.declared.encoder.Encoder.{Encoder}
-use Rattle.resolvo_encoder.specs.Cases.{IsDeferred, AreSets, sets_case}
+use Rattle.resolvo_encoder.specs.Cases.{case_of, IsDeferred, AreSets, sets_case}
+use Rattle.resolvo_encoder.specs.Conditions.{IsMetNow}
 use Rattle.resolvo_encoder.specs.Encoded.{IsGuarded, IsMarkKnown, IsPrepared, IsLimitEncoded, IsParentEncoded, rules_of}
 use Rattle.resolvo_encoder.specs.Steps.{Needs}
 use Rattle.resolvo_turn.specs.Tasks.{AreExcluded}
@@ -140,10 +142,17 @@ module _ {A N S C : Type 0} (same : S → S → Bool) (g : source.Ghosts A N S C
       → AreMatched same (g.packages a) (sets_case sets)
       → IsInOrderBy same g a root new × IsNeedEncoded same (g.packages a) (rules_of new) parent need (sets_case sets)
 
-  -- this one is a clause
-  abbrev pub RequiresCase : Option S → ConditionalRequirement → List VersionSetId → Encoder N S → Encoder N S → Type 0
-  RequiresCase parent need case old new = (root : Rules) → IsInOrderBy same g a root old
+  -- the same, and the requirement isn't guarded yet
+  abbrev pub RequiresCase : Option S → ConditionalRequirement → List (ConditionSet N S) → Encoder N S → Encoder N S → Type 0
+  RequiresCase parent need sets old new = (root : Rules) → IsInOrderBy same g a root old
+      → AreSets same (g.packages a) sets
       → Contains (rules_for same (g.packages a) root parent).requirements need
-      → Contains (cases_for same (g.packages a) need) case
-      → AreMatched same (g.packages a) case
-      → IsInOrderBy same g a root new × IsNeedEncoded same (g.packages a) (rules_of new) parent need case
+      → Contains (cases_for same (g.packages a) need) (sets_case sets)
+      → AreMatched same (g.packages a) (sets_case sets)
+      → IsInOrderBy same g a root new × IsNeedEncoded same (g.packages a) (rules_of new) parent need (sets_case sets)
+
+  -- the deferred case at the place, of which each version set has a chosen match, is a clause
+  abbrev pub RequiresDeferred : ℕ → Encoder N S → Encoder N S → Type 0
+  RequiresDeferred index old new = (root : Rules) → IsInOrderBy same g a root old → IsMetNow old index
+      → IsInOrderBy same g a root new
+      × ((d : Deferred S) → slice_get old.deferred.items index ≡ Some d → IsNeedEncoded same (g.packages a) (rules_of new) d.parent d.need (case_of d.conjuncts.items))

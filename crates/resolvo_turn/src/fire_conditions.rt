@@ -5,24 +5,25 @@ ghost use Rattle.resolvo_pool.specs.Cached.{IsCancelledBy};
 ghost use Rattle.resolvo_pool.specs.declared.cache.CacheFault.TheVariants.{Ids};
 ghost use Rattle.resolvo_pool_core.specs.declared.want.Want.TheVariants.{Ids as WantIds};
 ghost use Rattle.resolvo_state.specs.SolverState.{LacksNumber};
-ghost use Rattle.resolvo_encoder.specs.Conditions.{IsSet, AreSets, sets_case};
+ghost use Rattle.resolvo_encoder.specs.Conditions.{IsSet, AreSets, sets_case, case_of};
 ghost use Rattle.resolvo_encoder.specs.Conditions.{IsMetNow, IsSpent, AreSpent};
 ghost use Rattle.resolvo_encoder.specs.Steps.{IsBuilt};
 ghost use Rattle.resolvo_turn.specs.Encoder.{AddsNeeds, StaysInOrder};
 ghost use Rattle.resolvo_turn.specs.Turn.{FiresMore};
-ghost use Rattle.resolvo_turn.specs.Effects.{RequiresGuardedCase, RequiresCase};
+ghost use Rattle.resolvo_turn.specs.Effects.{RequiresGuardedCase, RequiresCase, RequiresDeferred};
 ghost use Rattle.resolvo_turn.specs.Matches.{MatchesSets, MatchesCase};
 ghost use Rattle.resolvo_turn.specs.LacksIds.{StopsAnyhow, StopsInOrder, StopsNeed};
 
 use crate::guards::guard;
 use crate::rules::add_available;
-use resolvo_encoder::conditions::{ConditionSet, DeferredRequirement, keeps_out};
+use resolvo_encoder::conditions::{ConditionSet, keeps_out};
 use resolvo_encoder::encoder::Encoder;
 use resolvo_packages::package_source::PackageSource;
 use resolvo_pool::cache::CacheFault;
 use resolvo_pool_core::id::{Exact, VersionSetId};
 use resolvo_pool_core::requirement::{ConditionalRequirement, Requirement};
 use resolvo_pool_core::want::R;
+use resolvo_store_core::conditions::DeferredConjunct;
 use std::alloc::Global;
 use std::fmt::Debug;
 use std::hash::Hash;
@@ -67,17 +68,17 @@ fn set_of<A: PackageSource>(
 fn sets_of<A: PackageSource>(
     alloc: Global,
     answers: &mut A,
-    case: &[VersionSetId],
+    conjuncts: &[DeferredConjunct<A::SolvableId>],
 ) -> Result<Vec<ConditionSet<A::NameId, A::SolvableId>>, CacheFault<A::Cancel>>
     ensures same { answers.new ≡ answers.old }
     ensures sets { IfOk result (λ v. AreSets A.SolvableId.eq (A.packages answers.old) v.items) }
-    ensures case { IfOk result (λ v. sets_case v.items ≡ case.now) }
+    ensures case { IfOk result (λ v. sets_case v.items ≡ case_of conjuncts.now) }
     ensures cancelled { IfErr result (IsCancelledBy (A.may_cancel answers.old)) }
     ensures ids { IsErrOf result Ids → A.may_lack_ids answers.old }
 {
-    let mut sets = Vec::with_capacity(alloc, case.len())?;
-    for version_set in case {
-        let set = set_of(alloc, answers, *version_set)?;
+    let mut sets = Vec::with_capacity(alloc, conjuncts.len())?;
+    for conjunct in conjuncts {
+        let set = set_of(alloc, answers, conjunct.version_set())?;
         sets.push(set)?;
     }
     Ok(sets)
@@ -121,7 +122,7 @@ fn encode_case<A: PackageSource>(
     encoding: &mut Encoder<A::NameId, A::SolvableId>,
     parent: Option<A::SolvableId>,
     need: ConditionalRequirement,
-    case: &[VersionSetId],
+    sets: &[ConditionSet<A::NameId, A::SolvableId>],
 ) -> Result<(), CacheFault<A::Cancel>>
     requires { IsBuilt encoding.old }
     // Whatever the answer.
@@ -129,7 +130,7 @@ fn encode_case<A: PackageSource>(
     // After an answer.
     ensures encoded { OnOk result
         (RequiresCase A.SolvableId.eq A.PackageSource answers.old
-        parent need case.now encoding.old encoding.new) }
+        parent need sets.now encoding.old encoding.new) }
     ensures kept { OnOk result (AddsNeeds encoding.old encoding.new) }
     ensures fired { OnOk result (encoding.new.fired ≡ encoding.old.fired) }
     ensures built { OnOk result (IsBuilt encoding.new) }
@@ -138,26 +139,57 @@ fn encode_case<A: PackageSource>(
     ensures ids { IsErrOf result Ids
         → StopsNeed A.SolvableId.eq A.PackageSource answers.old parent need encoding.new }
 {
-    let sets = sets_of(alloc, answers, case)?;
-    if keeps_out(sets.as_slice(), parent) {
+    if keeps_out(sets, parent) {
         return Ok(());
     }
     guard(answers, encoding, need.requirement)?;
-    add_case(alloc, answers, encoding, parent, need, sets.as_slice())?;
+    add_case(alloc, answers, encoding, parent, need, sets)?;
     Ok(())
+}
+
+/// Encodes the deferred case at this place.
+fn encode_deferred<A: PackageSource>(
+    alloc: Global,
+    answers: &mut A,
+    encoding: &mut Encoder<A::NameId, A::SolvableId>,
+    index: usize,
+) -> Result<(), CacheFault<A::Cancel>>
+    requires built { IsBuilt encoding.old }
+    requires within { index < length encoding.old.deferred.items }
+    // Whatever the answer.
+    ensures same { answers.new ≡ answers.old }
+    // After an answer.
+    ensures encoded { OnOk result
+        (RequiresDeferred A.SolvableId.eq A.PackageSource answers.old
+        index encoding.old encoding.new) }
+    ensures kept { OnOk result (AddsNeeds encoding.old encoding.new) }
+    ensures fired { OnOk result (encoding.new.fired ≡ encoding.old.fired) }
+    ensures built { OnOk result (IsBuilt encoding.new) }
+    // After a refusal.
+    ensures cancelled { IfErr result (IsCancelledBy (A.may_cancel answers.old)) }
+    ensures ids { IsErrOf result Ids
+        → StopsInOrder A.SolvableId.eq A.PackageSource answers.old encoding.old encoding.new }
+{
+    let deferred = encoding.waiting(index);
+    let parent = deferred.parent;
+    let need = deferred.need;
+    let sets = sets_of(alloc, answers, deferred.conjuncts.as_slice())?;
+    // split for the prover: one drop
+    let done = encode_case(alloc, answers, encoding, parent, need, sets.as_slice());
+    done
 }
 
 /// Whether a case names a package that is marked `many`.
 fn names_many<A: PackageSource>(
     answers: &mut A,
-    case: &[VersionSetId],
+    conjuncts: &[DeferredConjunct<A::SolvableId>],
 ) -> Result<bool, CacheFault<A::Cancel>>
     ensures same { answers.new ≡ answers.old }
     ensures cancelled { IfErr result (IsCancelledBy (A.may_cancel answers.old)) }
     ensures ids { IsErrOf result Ids → A.may_lack_ids answers.old }
 {
-    for version_set in case {
-        let name = answers.set_package(*version_set);
+    for conjunct in conjuncts {
+        let name = answers.set_package(conjunct.version_set());
         if answers.is_many(name)? {
             return Ok(true);
         }
@@ -200,12 +232,11 @@ fn match_sets<N: Copy + Exact + Hash + Debug + Drop, S: Copy + Exact + Hash + De
 /// Encodes the matches of a case of a parent's requirement, and the locks and exclusions of the
 /// candidates. One that can't hold beside its parent adds nothing.
 fn encode_matches<A: PackageSource>(
-    alloc: Global,
     answers: &mut A,
     encoding: &mut Encoder<A::NameId, A::SolvableId>,
     parent: Option<A::SolvableId>,
     need: ConditionalRequirement,
-    case: &[VersionSetId],
+    sets: &[ConditionSet<A::NameId, A::SolvableId>],
 ) -> Result<(), CacheFault<A::Cancel>>
     requires { IsBuilt encoding.old }
     // Whatever the answer.
@@ -213,7 +244,7 @@ fn encode_matches<A: PackageSource>(
     // After an answer.
     ensures encoded { OnOk result
         (MatchesCase A.SolvableId.eq A.PackageSource answers.old
-        parent need case.now encoding.old encoding.new) }
+        parent need sets.now encoding.old encoding.new) }
     ensures kept { OnOk result (AddsNeeds encoding.old encoding.new) }
     ensures built { OnOk result (IsBuilt encoding.new) }
     // After a refusal.
@@ -221,13 +252,42 @@ fn encode_matches<A: PackageSource>(
     ensures ids { IsErrOf result Ids
         → StopsAnyhow A.SolvableId.eq A.PackageSource answers.old encoding.new }
 {
-    let sets = sets_of(alloc, answers, case)?;
-    if keeps_out(sets.as_slice(), parent) {
+    if keeps_out(sets, parent) {
         return Ok(());
     }
     guard(answers, encoding, need.requirement)?;
-    match_sets(encoding, sets.as_slice())?;
+    match_sets(encoding, sets)?;
     Ok(())
+}
+
+/// Encodes the matches of the deferred case at this place.
+fn match_deferred<A: PackageSource>(
+    alloc: Global,
+    answers: &mut A,
+    encoding: &mut Encoder<A::NameId, A::SolvableId>,
+    index: usize,
+) -> Result<(), CacheFault<A::Cancel>>
+    requires built { IsBuilt encoding.old }
+    requires within { index < length encoding.old.deferred.items }
+    // Whatever the answer.
+    ensures same { answers.new ≡ answers.old }
+    // After an answer.
+    ensures stays { OnOk result
+        (StaysInOrder A.SolvableId.eq A.PackageSource answers.old encoding.old encoding.new) }
+    ensures kept { OnOk result (AddsNeeds encoding.old encoding.new) }
+    ensures built { OnOk result (IsBuilt encoding.new) }
+    // After a refusal.
+    ensures cancelled { IfErr result (IsCancelledBy (A.may_cancel answers.old)) }
+    ensures ids { IsErrOf result Ids
+        → StopsAnyhow A.SolvableId.eq A.PackageSource answers.old encoding.new }
+{
+    let deferred = encoding.waiting(index);
+    let parent = deferred.parent;
+    let need = deferred.need;
+    let sets = sets_of(alloc, answers, deferred.conjuncts.as_slice())?;
+    // split for the prover: one drop
+    let done = encode_matches(answers, encoding, parent, need, sets.as_slice());
+    done
 }
 
 /// Encodes the matches of the deferred case at this place, if it names a package that is marked
@@ -254,11 +314,11 @@ pub(crate) fn match_case<A: PackageSource>(
     if index >= encoding.deferred.len() {
         return Ok(());
     }
-    let DeferredRequirement { parent, need, case } = encoding.waiting(alloc, index)?;
-    if !names_many(answers, case.as_slice())? {
+    let deferred = encoding.waiting(index);
+    if !names_many(answers, deferred.conjuncts.as_slice())? {
         return Ok(());
     }
-    encode_matches(alloc, answers, encoding, parent, need, case.as_slice())?;
+    match_deferred(alloc, answers, encoding, index)?;
     Ok(())
 }
 
@@ -286,8 +346,7 @@ fn fire<A: PackageSource>(
     ensures ids { IsErrOf result Ids
         → StopsInOrder A.SolvableId.eq A.PackageSource answers.old encoding.old encoding.new }
 {
-    let DeferredRequirement { parent, need, case } = encoding.waiting(alloc, index)?;
-    encode_case(alloc, answers, encoding, parent, need, case.as_slice())?;
+    encode_deferred(alloc, answers, encoding, index)?;
     encoding.end_case(index)?;
     Ok(())
 }
