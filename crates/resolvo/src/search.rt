@@ -63,7 +63,7 @@ fn run_others<A: PackageSource, C: ScoreMap<A::NameId>>(
     alloc: Global,
     answers: &mut A,
     encoding: &mut Encoder<A::NameId, A::SolvableId>,
-    state: &mut TurnState<A::NameId, C>,
+    state: &mut TurnState<A::NameId, A::SolvableId, C>,
     input: &TurnInput<'_>,
     softs: &[A::SolvableId],
 ) -> Result<SearchResult<A::SolvableId>, CacheFault<A::Cancel>>
@@ -99,7 +99,7 @@ fn run_turns<A: PackageSource, C: ScoreMap<A::NameId>>(
     alloc: Global,
     answers: &mut A,
     encoding: &mut Encoder<A::NameId, A::SolvableId>,
-    state: &mut TurnState<A::NameId, C>,
+    state: &mut TurnState<A::NameId, A::SolvableId, C>,
     input: &TurnInput<'_>,
     softs: &[A::SolvableId],
 ) -> Result<SearchResult<A::SolvableId>, CacheFault<A::Cancel>>
@@ -199,7 +199,7 @@ pub fn search<A: PackageSource, C: ScoreMap<A::NameId> + Drop>(
         requirements,
         constraints,
     };
-    let mut state = TurnState::<A::NameId, C>::new(alloc);
+    let mut state = TurnState::<A::NameId, A::SolvableId, C>::new(alloc);
     // split for the prover: error and answer
     let found = run_turns(alloc, answers, encoding, &mut state, &input, softs)?;
     Ok(found)

@@ -78,7 +78,7 @@ pub fn run_cdcl<A: PackageSource, C: ScoreMap<A::NameId>>(
     alloc: Global,
     answers: &A,
     encoding: &mut Encoder<A::NameId, A::SolvableId>,
-    state: &mut TurnState<A::NameId, C>,
+    state: &mut TurnState<A::NameId, A::SolvableId, C>,
     activity: Activity,
 ) -> Result<Option<FinalConflict>, CacheFault<A::Cancel>>
     requires built { IsBuilt encoding.old }

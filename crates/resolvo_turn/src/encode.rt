@@ -413,6 +413,7 @@ pub(crate) fn encode_parents<A: PackageSource>(
     alloc: Global,
     answers: &mut A,
     encoding: &mut Encoder<A::NameId, A::SolvableId>,
+    tasks: &mut Tasks<A::SolvableId>,
     places: &[usize],
     input: &TurnInput<'_>,
 ) -> Result<(), CacheFault<A::Cancel>>
@@ -433,14 +434,14 @@ pub(crate) fn encode_parents<A: PackageSource>(
         → StopsInOrderOf A.SolvableId.eq A.PackageSource answers.old
         input.now.requirements.now input.now.constraints.now encoding.old encoding.new }
 {
-    let mut tasks = Tasks::new(alloc, encoding.encoded);
+    tasks.begin(encoding.encoded);
     let mut excluded = IndexSet::new(alloc);
     // split for the prover: one drop
     let done = encode_tasks(
         alloc,
         answers,
         encoding,
-        &mut tasks,
+        tasks,
         &mut excluded,
         places,
         input,

@@ -26,6 +26,8 @@ pub struct Scan<N: Copy + Exact + Hash> {
     touched: Vec<usize>,
     /// The conditions of listed cases that wait.
     conditions: WaitingConditions,
+    /// The places that were sorted last, each with its rank.
+    ranked: Vec<(usize, usize)>,
 }
 
 // split for the prover: one drop
@@ -37,6 +39,7 @@ impl<N: Copy + Exact + Hash> Drop for Scan<N> {
             listed: _,
             touched: _,
             conditions: _,
+            ranked: _,
         } = self;
     }
 }
@@ -50,6 +53,7 @@ impl<N: Copy + Exact + Hash + Debug> Scan<N> {
             listed: 0,
             touched: Vec::new(alloc),
             conditions: WaitingConditions::new(alloc),
+            ranked: Vec::new(alloc),
         }
     }
 
@@ -123,7 +127,6 @@ fn condition_at<N: Copy + Exact + Hash + Debug, S: Copy + Exact + Hash + Debug>(
 /// Finds the new cases, and those that may hold by the decisions since their last scan. They come
 /// by condition, and of one condition in the order in which they were deferred.
 pub(crate) fn find_touched<A: PackageSource>(
-    alloc: Global,
     answers: &A,
     encoding: &Encoder<A::NameId, A::SolvableId>,
     scan: &mut Scan<A::NameId>,
@@ -135,17 +138,17 @@ pub(crate) fn find_touched<A: PackageSource>(
         drop_spent(encoding, &mut scan.touched);
         return Ok(());
     }
-    let mut ranked = Vec::new(alloc);
+    scan.ranked.clear();
     for place in &scan.touched {
         if !encoding.fired.contains(*place) {
             let rank = scan.conditions.rank(condition_at(encoding, *place));
-            ranked.push((rank, *place))?;
+            scan.ranked.push((rank, *place))?;
         }
     }
-    ranked.sort_unstable();
-    ranked.dedup();
+    scan.ranked.sort_unstable();
+    scan.ranked.dedup();
     scan.touched.clear();
-    for (_, place) in &ranked {
+    for (_, place) in &scan.ranked {
         scan.touched.push(*place)?;
     }
     Ok(())

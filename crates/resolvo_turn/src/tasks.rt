@@ -40,13 +40,20 @@ pub struct Tasks<S> {
 }
 
 impl<S: Copy + Exact + Hash + Debug> Tasks<S> {
-    /// No task yet, where so many parents are encoded.
-    pub(crate) fn new(alloc: Global, encoded: usize) -> Tasks<S> {
+    /// No task.
+    pub(crate) fn new(alloc: Global) -> Tasks<S> {
         Tasks {
             queue: Vec::new(alloc),
             taken: 0,
-            queued: encoded,
+            queued: 0,
         }
+    }
+
+    /// An encoding begins, where so many parents are encoded: there is no task yet.
+    pub(crate) fn begin(&mut self, encoded: usize) {
+        self.queue.clear();
+        self.taken = 0;
+        self.queued = encoded;
     }
 
     /// Puts a task behind the others.

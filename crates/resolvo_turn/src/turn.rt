@@ -19,6 +19,7 @@ use crate::chosen::{chosen_at, chosen_in_turn};
 use crate::encode::encode_parents;
 use crate::fire_conditions::{fire_cases, fire_each};
 use crate::scan::{Scan, find_touched, mark_all};
+use crate::tasks::Tasks;
 use crate::turn_input::TurnInput;
 use crate::turn_state::TurnState;
 use resolvo_encoder::encoder::Encoder;
@@ -102,6 +103,7 @@ fn encode<A: PackageSource>(
     answers: &mut A,
     encoding: &mut Encoder<A::NameId, A::SolvableId>,
     scan: &mut Scan<A::NameId>,
+    tasks: &mut Tasks<A::SolvableId>,
     input: &TurnInput<'_>,
 ) -> Result<(), CacheFault<A::Cancel>>
     requires { IsBuilt encoding.old }
@@ -121,7 +123,7 @@ fn encode<A: PackageSource>(
         → StopsInOrderOf A.SolvableId.eq A.PackageSource answers.old
         input.now.requirements.now input.now.constraints.now encoding.old encoding.new }
 {
-    encode_parents(alloc, answers, encoding, scan.touched(), input)?;
+    encode_parents(alloc, answers, encoding, tasks, scan.touched(), input)?;
     scan.end_touched(encoding);
     undo_broken(encoding, scan);
     Ok(())
@@ -244,7 +246,7 @@ fn choose_and_decide<A: PackageSource, C: ScoreMap<A::NameId>>(
     alloc: Global,
     answers: &A,
     encoding: &mut Encoder<A::NameId, A::SolvableId>,
-    state: &mut TurnState<A::NameId, C>,
+    state: &mut TurnState<A::NameId, A::SolvableId, C>,
     activity: Activity,
     soft: Option<VariableId>,
 ) -> Result<Option<FinalConflict>, CacheFault<A::Cancel>>
@@ -275,7 +277,7 @@ fn encode_and_decide<A: PackageSource, C: ScoreMap<A::NameId>>(
     alloc: Global,
     answers: &mut A,
     encoding: &mut Encoder<A::NameId, A::SolvableId>,
-    state: &mut TurnState<A::NameId, C>,
+    state: &mut TurnState<A::NameId, A::SolvableId, C>,
     input: &TurnInput<'_>,
     soft: Option<VariableId>,
 ) -> Result<Option<FinalConflict>, CacheFault<A::Cancel>>
@@ -298,7 +300,14 @@ fn encode_and_decide<A: PackageSource, C: ScoreMap<A::NameId>>(
         → StopsInOrderOf A.SolvableId.eq A.PackageSource answers.old
         input.now.requirements.now input.now.constraints.now encoding.old encoding.new }
 {
-    encode(alloc, answers, encoding, &mut state.scan, input)?;
+    encode(
+        alloc,
+        answers,
+        encoding,
+        &mut state.scan,
+        &mut state.tasks,
+        input,
+    )?;
     let activity = input.activity;
     // split for the prover: error and answer
     let refusal = choose_and_decide(alloc, answers, encoding, state, activity, soft)?;
@@ -362,7 +371,7 @@ fn scan_new<A: PackageSource>(
         → StopsInOrder A.SolvableId.eq A.PackageSource answers.old encoding.old encoding.new }
 {
     add_new_chosen(answers, encoding, scan)?;
-    find_touched(alloc, answers, encoding, scan)?;
+    find_touched(answers, encoding, scan)?;
     if encoding.next_parent().is_some() {
         return Ok(true);
     }
@@ -422,7 +431,7 @@ fn run_round<A: PackageSource, C: ScoreMap<A::NameId>>(
     alloc: Global,
     answers: &mut A,
     encoding: &mut Encoder<A::NameId, A::SolvableId>,
-    state: &mut TurnState<A::NameId, C>,
+    state: &mut TurnState<A::NameId, A::SolvableId, C>,
     input: &TurnInput<'_>,
     soft: Option<VariableId>,
 ) -> Result<Round, CacheFault<A::Cancel>>
@@ -467,7 +476,7 @@ pub fn run_turn<A: PackageSource, C: ScoreMap<A::NameId>>(
     alloc: Global,
     answers: &mut A,
     encoding: &mut Encoder<A::NameId, A::SolvableId>,
-    state: &mut TurnState<A::NameId, C>,
+    state: &mut TurnState<A::NameId, A::SolvableId, C>,
     input: &TurnInput<'_>,
     soft: Option<VariableId>,
 ) -> Result<Option<FinalConflict>, CacheFault<A::Cancel>>
