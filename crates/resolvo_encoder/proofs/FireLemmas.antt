@@ -35,7 +35,7 @@ use Rattle.resolvo_state.specs.Kinds.{Kind}
 use Rattle.resolvo_state.specs.Atoms.{origin}
 use Rattle.resolvo_state.specs.declared.solver_state.SolverState.{SolverState}
 use Rattle.resolvo_state.specs.SolverState.{IsCoding}
-use Rattle.resolvo_state.proofs.Growth.{grows_same, represents_in_range}
+use Rattle.resolvo_state.proofs.Growth.{grows_same}
 use Rattle.resolvo_state.proofs.Origins.{count_is, means_solvable}
 use Rattle.resolvo_state.proofs.Positions.{prefix_same, prefix_long, get_last, get_old, get_push}
 use Rattle.resolvo_encoder.specs.Cases.{case_of, sets_case, IsMatching, IsSet, AreSets, IsCaseOf}
@@ -51,6 +51,7 @@ use Rattle.resolvo_encoder.specs.declared.encoder.Encoder.{Encoder}
 use Rattle.resolvo_encoder.proofs.BuildLemmas.{built_disjunction, built_in_range, built_encodes}
 use Rattle.resolvo_encoder.proofs.EnrollLemmas.{disjunction_keeps, fixes_keep, fixes_add, fixes_extend}
 use Rattle.resolvo_encoder.proofs.EncodesLemmas.{parent_variable_grows}
+use Rattle.resolvo_encoder.proofs.RangeLemmas.{parent_below}
 use Rattle.resolvo_encoder.proofs.NeedLemmas.{IsReady, need_keeps}
 use Rattle.resolvo_encoder.proofs.RequireLemmas.{each_of, parent_grows, extends_then, some_one}
 
@@ -192,15 +193,10 @@ module _ {N S : Type 0} (same : S → S → Bool) (exact : IsExact same) where
 
 -- ---- a case is encoded
 
--- a parent's variable exists
-parent_in_range : {N S : Type 0} (c : SolverState N S) (parent : Option S) (v : VariableId) → IsCoding c → IsParentVariable c.atoms.keys parent v → v.0 < count_of c.search
-parent_in_range c None v coding is = let count = count_is c coding in let none : v.0 ≡ 0 = ap (λ (x : VariableId). x.0) is in omega (arith, count, none)
-parent_in_range c (Some s) v coding present = represents_in_range c v (Solvable s) coding present
-
 -- the variables of the case's clause exist
 pub case_in_range : {N S : Type 0} (e : Encoder N S) (parent : Option S) (v : VariableId) (id : DenseId DisjunctionTag ℕ) (given : Disjunction) (ls : FixedLists N) (r : Requirement) → IsBuilt e → FixesDisjunction id.raw given e.lists ls → IsParentVariable e.coding.atoms.keys parent v
     → AreInRange (count_of e.coding.search) given.literals.items → AreInRange (count_of e.coding.search) (no v ∷ (condition_in ls (Some id) ++ literals_in (candidates_in ls r)))
-case_in_range e parent v id given ls r built fixes present below = built_in_range (record e { lists = ls }) v (Some id) r (built_disjunction id.raw given e ls built fixes) (parent_in_range e.coding parent v built.coding present)
+case_in_range e parent v id given ls r built fixes present below = built_in_range (record e { lists = ls }) v (Some id) r (built_disjunction id.raw given e ls built fixes) (parent_below e built parent v present)
     (subst (AreInRange (count_of e.coding.search)) (sym (disjunction_is id given e.lists ls fixes)) below)
 
 -- The steps that encode a case: candidates, the parent's variable, at-least-one clauses, its

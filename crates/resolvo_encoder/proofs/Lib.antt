@@ -23,3 +23,4 @@ pub mod PlaceLemmas
 pub mod FireLemmas
 pub mod RecordLemmas
 pub mod FlagLemmas
+pub mod RangeLemmas

@@ -1,4 +1,4 @@
-use Rattle.std.proofs.Common.{[], ◌∷◌, inr, sym, subst}
+use Rattle.std.proofs.Common.{[], ◌∷◌, inr, sym, subst, false}
 use Rattle.std.specs.Prelude.{Contains}
 use Rattle.resolvo_store_core.specs.Signed.{Signed}
 use Rattle.resolvo_store_core.specs.Clauses.{no}
@@ -8,6 +8,9 @@ use Rattle.resolvo_sat.proofs.Lists.{contains_one, contains_only}
 use Rattle.resolvo_encoder.specs.declared.encoder.EncodedOnce.{EncodedOnce}
 use Rattle.resolvo_encoder.specs.ClauseRules.{EncodesPair}
 use Rattle.resolvo_encoder.proofs.EncodesLemmas.{parent_variable_grows, encodes_then, outside_encodes}
+use Rattle.resolvo_state.specs.declared.atom.ProofAtom.TheVariants.{Outside}
+use Rattle.resolvo_sat.specs.State.{count_of}
+use Rattle.resolvo_encoder.proofs.RangeLemmas.{atom_below, parent_below, atom_small, literal_below}
 use Rattle.resolvo_encoder.proofs.encoder.Encoder.limit_outside.Goals as goal
 
 pub returns-clause-encodes : goal.returns-clause-encodes
@@ -25,3 +28,13 @@ returns-clause-encoded g c = λ p root lawful holds recorded limited.
     let (last, rules_of_new) = encodes.encoding p root lawful holds (λ r h. subst (IsRule g.S.PartialEq.eq p root) (sym (contains_one r rule h)) limited) in
     let kept : Contains c.encode_pair.new.self.recorded.version_sets.keys c.args.version_set = subst (λ (e : EncodedOnce _ _). Contains e.version_sets.keys c.args.version_set) (sym encodes.recorded) recorded in
     (last, λ s h. inr (rules_of_new rule (contains_only rule), last.recorded.version_sets c.args.version_set s kept h))
+
+pub new-requires : goal.new-requires
+new-requires g c = atom_small c.give.new.self c.in_ok-second.ensures.encodes.built c.in_ok-second.second (Outside c.args.version_set) c.in_ok-second.ensures.present
+
+pub encode_pair-requires-clause-first : goal.encode_pair-requires-clause-first
+encode_pair-requires-clause-first g c = parent_below c.give.new.self c.in_ok-second.ensures.encodes.built c.args.parent c.in_ok-first.first (parent_variable_grows c.parent_variable.new.self c.give.new.self c.args.parent c.in_ok-first.first c.in_ok-second.ensures.encodes.extends c.in_ok-first.ensures.present)
+
+pub encode_pair-requires-clause-second : goal.encode_pair-requires-clause-second
+encode_pair-requires-clause-second g c =
+    literal_below (count_of c.give.new.self.coding.search) c.new.result c.in_ok-second.second false c.new.ensures (atom_below c.give.new.self c.in_ok-second.ensures.encodes.built c.in_ok-second.second (Outside c.args.version_set) c.in_ok-second.ensures.present)
