@@ -6,3 +6,4 @@ pub mod TakenLemmas
 pub mod StopLemmas
 pub mod TaskLemmas
 pub mod MatchSets
+pub mod PushLemmas
