@@ -1,7 +1,10 @@
-use Rattle.std.proofs.Common.{◌≡◌, ◌≤◌, None, Some, length, List, [], refl, sym, ◌∙◌, subst, arith, rules}
+use Rattle.std.proofs.Common.{◌≡◌, ◌<◌, ◌≤◌, ◌+◌, None, Some, length, List, [], refl, sym, ◌∙◌, ap, subst, arith, rules}
 use Rattle.std.specs.Prelude.{slice_get, Contains}
+use Rattle.std.proofs.lemmas.Option.{slice_get_within}
 use Rattle.resolvo_pool_core.specs.Text.{solvable_of}
 use Rattle.resolvo_sat.proofs.Lists.{contains_none}
+use Rattle.resolvo_state.proofs.Positions.{prefix_long}
+use Rattle.resolvo_encoder.specs.declared.encoder.Encoder.{Encoder}
 use Rattle.resolvo_encoder.proofs.Bases.{turn_same, turns_then}
 use Rattle.resolvo_turn.specs.Encoder.{StaysInOrder}
 use Rattle.resolvo_turn.specs.Effects.{EncodesParent}
@@ -45,6 +48,29 @@ loop-encoding-preserved g c =
       turn = turns_next start old middle new next before.turn asked.kept kept c.end_parent.ensures.next;
       built = c.end_parent.ensures.built c.in_ok-encode_parent-in-Some.ensures.built;
     }
+
+pub end_parent-requires : goal.end_parent-requires
+end_parent-requires g c =
+    let middle = c.ask_and_fire.new.encoding in
+    let new = c.encode_parent.new.encoding in
+    let kept = c.in_ok-encode_parent-in-Some.ensures.kept in
+    let here : slice_get middle.parents.keys middle.encoded ≡ Some c.in-Some.parent = sym c.next_parent.ensures.parent ∙ c.in-Some.is in
+    let below : middle.encoded < length middle.parents.keys = slice_get_within middle.parents.keys middle.encoded c.in-Some.parent here in
+    let long : length middle.parents.keys ≤ length new.parents.keys = prefix_long middle.parents.keys new.parents.keys kept.parents in
+    let same : new.encoded ≡ middle.encoded = kept.encoded in
+    omega arith
+
+pub loop-encoding-smaller : goal.loop-encoding-smaller
+loop-encoding-smaller g c =
+    let old = c.loop-encoding.encoding in
+    let middle = c.ask_and_fire.new.encoding in
+    let new = c.encode_parent.new.encoding in
+    let next = c.end_parent.new.self in
+    let more : next.encoded ≡ new.encoded + 1 = ap (λ (x : Encoder _ _). x.encoded) c.end_parent.ensures.next in
+    let same : new.encoded ≡ middle.encoded = c.in_ok-encode_parent-in-Some.ensures.kept.encoded in
+    let before : middle.encoded ≡ old.encoded = c.in_ok-ask_and_fire.ensures.kept.encoded in
+    let small : middle.encoded < 18446744073709551616 = c.next_parent.ensures.bounded in
+    omega arith
 
 pub returns-in-None-clause-same : goal.returns-in-None-clause-same
 returns-in-None-clause-same g c = c.in_ok-ask_and_fire.ensures.same ∙ c.loop-encoding.invariant.same
