@@ -1,5 +1,5 @@
 //! Adds a clause, which is pending until it watches two of its literals.
-ghost use Rattle.std.specs.Prelude.{◌≡◌, ◌<◌, length, true, not, IfOk, IsErrOf, IsOkUnless};
+ghost use Rattle.std.specs.Prelude.{◌≡◌, ◌<◌, ◌++◌, ◌∷◌, [], length, true, not, IfOk, IsErrOf, IsOkUnless};
 ghost use Rattle.resolvo_pool_core.specs.declared.want.Want.TheVariants.{Memory, Ids};
 ghost use Rattle.resolvo_store_core.specs.Signed.{has};
 ghost use Rattle.resolvo_sat.specs.Clauses.{sat_clause};
@@ -112,15 +112,42 @@ impl WatchLists {
         ensures refusal { IsOkUnless result Memory }
     {
         if is_long {
-            self.pending.push(unit.clause)?;
-            if let Some(watched) = start {
-                let clause = unit.clause;
-                self.starts.push(Start { clause, watched })?;
-            }
+            self.add_pending(unit.clause, start, is_rule)?;
         } else {
             self.add_unit(unit, is_rule)?;
         }
         self.watched.push(None)?;
+        Ok(())
+    }
+
+    /// Lists a pending clause, and what it is to watch. With the first one the list of those to
+    /// visit begins anew. A learnt clause is to be visited.
+    #[inline(always)]
+    fn add_pending(
+        &mut self,
+        clause: ClauseId,
+        start: Option<WatchedLiterals>,
+        is_rule: bool,
+    ) -> R<()>
+        ensures pending { IfOk result
+            (λ _. self.new.pending.items ≡ self.old.pending.items ++ clause ∷ []) }
+        ensures others { (self.new.watched ≡ self.old.watched)
+            × (self.new.watches ≡ self.old.watches)
+            × (self.new.units_done ≡ self.old.units_done)
+            × (self.new.assertions ≡ self.old.assertions)
+            × (self.new.learnt ≡ self.old.learnt) }
+        ensures refusal { IsOkUnless result Memory }
+    {
+        if self.pending.is_empty() {
+            self.due.clear();
+        }
+        self.pending.push(clause)?;
+        if let Some(watched) = start {
+            self.starts.push(Start { clause, watched })?;
+        }
+        if !is_rule {
+            self.note_due(clause)?;
+        }
         Ok(())
     }
 

@@ -55,6 +55,7 @@ pub fn begin(alloc: Global) -> R<(SatState, WatchLists)>
         units_done: Vec::new(alloc),
         pending: Vec::new(alloc),
         starts: Vec::new(alloc),
+        due: Vec::new(alloc),
         places: Vec::new(alloc),
         passed: Vec::new(alloc),
         at_once: Vec::new(alloc),

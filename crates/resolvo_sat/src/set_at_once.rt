@@ -17,7 +17,7 @@ use resolvo_store_core::watched_literals::WatchedLiterals;
 
 impl SatState {
     /// Notes where a new rule is falsified as it is added. Or where it sets a literal, if its kind
-    /// does so.
+    /// does so. And that it may have to be visited, where a literal is false.
     #[inline(always)]
     pub fn note_rule(
         &self,
@@ -33,15 +33,20 @@ impl SatState {
         if watching.at_once.is_empty() && self.are_two_open(literals) {
             return Ok(());
         }
+        watching.note_due(clause)?;
         self.note_closed(watching, clause, literals, sets_at_once)
     }
 
-    /// Whether neither of the first two literals is false. Such a clause sets nothing.
+    /// Whether the first two literals differ, and neither is false. Such a clause sets nothing, and
+    /// is to watch these two.
     #[inline(always)]
     fn are_two_open(&self, literals: &[Literal]) -> bool
         requires { IsState self.now }
     {
-        literals.len() > 1 && !self.is_false(literals[0]) && !self.is_false(literals[1])
+        literals.len() > 1
+            && literals[0] != literals[1]
+            && !self.is_false(literals[0])
+            && !self.is_false(literals[1])
     }
 
     /// The same of a rule that may be falsified, or set a literal.

@@ -1,7 +1,8 @@
 //! Visits to the pending clauses. By the rules a new clause watches two of its literals at once, at
 //! the front of their lists. Propagation then begins anew at the front of the trail. Over what was
 //! propagated before, that walk changes something at new clauses alone. So only these are visited,
-//! in the order in which that walk would meet them.
+//! in the order in which that walk would meet them. A clause that has two literals to watch that
+//! aren't false as it is added is never met there: they become false behind the propagation head.
 ghost use Rattle.std.specs.Prelude.{◌≡◌, ◌<◌, length, slice_get, true, None, IfOk, IfSome, IsOkUnless};
 ghost use Rattle.resolvo_pool_core.specs.declared.want.Want.TheVariants.{Memory};
 ghost use Rattle.resolvo_sat.specs.Known.{clause_at};
@@ -12,7 +13,7 @@ ghost use Rattle.resolvo_sat.specs.Attach.{AreFalseBut, IsStartVisit, IsPendingV
 
 use crate::attach::is_among;
 use crate::state::SatState;
-use crate::watch_lists::{WatchLists, small};
+use crate::watch_lists::{Due, WatchLists, small};
 use resolvo_pool_core::id::{ClauseId, DenseIndex, VariableId};
 use resolvo_pool_core::want::R;
 use resolvo_store_core::literal::Literal;
@@ -83,40 +84,38 @@ impl SatState {
         ensures refusal { IsOkUnless result Memory }
     {
         let mut visits = Vec::new(*watching.pending.allocator());
-        let count = watching.pending.len();
-        let mut start = 0;
-        for index in 0..count {
-            let Some(clause) = watching.pending_at(index) else {
-                break;
-            };
-            if let Some(pair) = self.start_at(watching, clause, start) {
-                let visit = Visit {
-                    place: 0,
-                    from_end: count - index,
-                    is_second: false,
-                    start,
-                };
-                self.push_visits(watching, &mut visits, pair, visit)?;
-            }
-            if self.literals(clause).len() != 2 {
-                start = start.saturating_add(1);
+        for due in &watching.due {
+            if let Some(clause) = watching.pending_at(due.index) {
+                if clause == due.clause {
+                    self.push_visits(watching, &mut visits, clause, *due)?;
+                }
             }
         }
         visits.sort()?;
         Ok(visits)
     }
 
-    /// Adds the visits of a clause that are due.
+    /// Adds the visits of a pending clause that are due.
     fn push_visits(
         &self,
         watching: &WatchLists,
         visits: &mut Vec<Visit>,
-        pair: WatchedLiterals,
-        visit: Visit,
+        clause: ClauseId,
+        due: Due,
     ) -> R<()>
         requires state { IsState self.now }
+        requires in_range { clause.0 < length self.now.clauses }
         ensures refusal { IsOkUnless result Memory }
     {
+        let Some(pair) = self.start_at(watching, clause, due.start) else {
+            return Ok(());
+        };
+        let visit = Visit {
+            place: 0,
+            from_end: watching.pending.len().saturating_sub(due.index),
+            is_second: false,
+            start: due.start,
+        };
         if self.is_false(pair.first) {
             self.push_visit(watching, visits, pair.first, visit)?;
         }

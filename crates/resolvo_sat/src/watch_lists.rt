@@ -25,6 +25,15 @@ pub struct Start {
     pub watched: WatchedLiterals,
 }
 
+/// A pending clause that may have to be visited, with its place among the pending ones, and that of
+/// what is noted of it if it has more than two literals.
+#[derive(Clone, Copy, Debug)]
+pub struct Due {
+    pub clause: ClauseId,
+    pub index: usize,
+    pub start: usize,
+}
+
 /// Notes that the trail's first entries make the first unit clauses of both lists true.
 #[derive(Clone, Copy, Debug)]
 pub struct UnitsDone {
@@ -50,6 +59,9 @@ pub struct WatchLists {
     /// What the pending clauses of more than two literals are to watch, in the order of `pending`. No
     /// proof rests on it: it is tested.
     pub starts: Vec<Start>,
+    /// The pending clauses that were added while one of the literals that they are to watch was
+    /// false. The others need no visit. No proof rests on it: it is tested.
+    pub due: Vec<Due>,
     /// The place on the trail at which each variable was last seen, or is to be. No proof rests on it
     /// either.
     pub places: Vec<u32>,
@@ -97,6 +109,21 @@ impl WatchLists {
         } else {
             0
         }
+    }
+
+    /// Notes that the last pending clause, where it is this one, may have to be visited.
+    pub(crate) fn note_due(&mut self, clause: ClauseId) -> R<()>
+        ensures kept { KeepsLists self.old self.new }
+        ensures refusal { IsOkUnless result Memory }
+    {
+        let index = self.pending.len().saturating_sub(1);
+        let start = self.starts.len().saturating_sub(1);
+        self.due.push(Due {
+            clause,
+            index,
+            start,
+        })?;
+        Ok(())
     }
 
     /// Drops what is known of the clauses' first literals: entries of the first level are undone.
