@@ -9,10 +9,6 @@ use Rattle.resolvo_catalogue_core.specs.declared.rule.VersionNo.{VersionNo}
 use Rattle.resolve_refusal.specs.Lines.{text_of}
 use Rattle.resolve_refusal.specs.LacksNumbers.{HasTooManyCases, LacksCaseNumbers}
 
--- a case whose place is past the numbers is one of too many
-pub too_many : (cases : List (List Spec)) (case : List Spec) (k : ℕ) → slice_get cases k ≡ Some case → 4294967295 ≤ k → 4294967295 < length cases
-too_many cases case k at past = (let within : k < length cases = slice_get_within cases k case at in omega (arith, within, past))
-
 -- a line of a text has them
 pub many_at : (lines : List Line) (n : ℕ) (l : Line) → line_at lines n ≡ Some l → 4294967295 < length (cases_of_line (Some l)) → HasTooManyCases lines
 many_at lines n l at many = (n, subst (λ (o : Option Line). 4294967295 < length (cases_of_line o)) (sym at) many)

@@ -78,9 +78,6 @@ pub record AreByText (catalogue : List Line) (ids : Ids) (literals : List (Proof
   pub from : (e : String Global × Literal) → Contains entries e → (k : ProofLiteral NameId SolvableId) × Contains literals k × (literal_of e.1 ≡ literal_at catalogue ids k)
   pub all : (k : ProofLiteral NameId SolvableId) → Contains literals k → (e : String Global × Literal) × Contains entries e × (string_bytes e.0 ≡ literal_text (literal_at catalogue ids k))
 
-pub by_text_none : (catalogue : List Line) (ids : Ids) → AreByText catalogue ids [] []
-by_text_none catalogue ids = record { keyed = λ e h. absurd (no_element e h); from = λ e h. absurd (no_element e h); all = λ k h. absurd (no_element k h) }
-
 pub by_text_more : (cmp : String Global → String Global → Ordering) → ((a b : String Global) → cmp a b ≡ Equal → string_bytes a ≡ string_bytes b) → (catalogue : List Line) (ids : Ids) (literals : List (ProofLiteral NameId SolvableId)) (entries : List (String Global × Literal))
     (k : ProofLiteral NameId SolvableId) (key : String Global) (w : Literal) → string_bytes key ≡ literal_text (literal_of w) → literal_of w ≡ literal_at catalogue ids k → AreByText catalogue ids literals entries → AreByText catalogue ids (literals ++ k ∷ []) (insert_entry cmp entries key w)
 by_text_more cmp same catalogue ids literals entries k key w spelled is are = record {
