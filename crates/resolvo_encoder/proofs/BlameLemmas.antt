@@ -172,16 +172,3 @@ module _ {N S : Type 0} (same : S → S → Bool) (exact : IsExact same) (p : Pa
       nothing : (ls : List Signed) → length ls ≡ 0 → (l : Signed) → has ls l ≡ true → ⊥
       nothing [] none l h = both_ways false refl h
       nothing (x ∷ xs) none l h = omega arith
-
--- the clause that refuses a soft requirement is a denial
-pub blame_forbids : {N S : Type 0} (e : Encoder N S) (v : VariableId) (literals : List Signed) (causes : List ClauseId) → IsBlamed e v literals causes → IsDenial e.coding.search literals causes
-blame_forbids e v literals causes blamed = record {
-  derived = blamed.derived;
-  caused = blamed.caused;
-  from = blamed.from;
-  negative = λ l h. elim (blamed.blame l h) [
-    | inl is ↦ ap (λ (x : Signed). x.positive) is
-    | inr (inl is) ↦ ap (λ (x : Signed). x.positive) is
-    | inr (inr (t, u, is, named, truth)) ↦ ap (λ (x : Signed). x.positive) is
-  ];
-}

@@ -162,13 +162,6 @@ built_parents {N} {S} old new b added = subst (λ (x : Encoder N S). IsBuilt x) 
 pub built_next : {N S : Type 0} (e : Encoder N S) → IsBuilt e → e.encoded < length e.parents.keys → IsBuilt (record e { encoded = e.encoded + 1 })
 built_next e b below = record { coding = b.coding; tied = b.tied; candidates = b.candidates; gates = b.gates; within = omega arith; clauses = b.clauses; queue = b.queue; seen = b.seen }
 
--- where cases were deferred, or one fired
-pub built_defers : {N S : Type 0} (old new : Encoder N S) → IsBuilt old → Defers old new → IsBuilt new
-built_defers {N} {S} old new b d = subst (λ (x : Encoder N S). IsBuilt x) (sym d.rest) (record { coding = b.coding; tied = b.tied; candidates = b.candidates; gates = b.gates; within = b.within; clauses = b.clauses; queue = b.queue; seen = b.seen })
-
-pub built_fires : {N S : Type 0} (index : ℕ) (old new : Encoder N S) → IsBuilt old → Fires index old new → IsBuilt new
-built_fires {N} {S} index old new b f = subst (λ (x : Encoder N S). IsBuilt x) (sym f.rest) (record { coding = b.coding; tied = b.tied; candidates = b.candidates; gates = b.gates; within = b.within; clauses = b.clauses; queue = b.queue; seen = b.seen })
-
 -- at first
 pub built_begun : {N S : Type 0} (e : Encoder N S) → IsBegunEncoding e → IsBuilt e
 built_begun {N} {S} e begun = record {

@@ -74,9 +74,6 @@ pub record AreOf {N S : Type 0} (atoms : List (ProofAtom N S)) (variables : List
   pub each : (v : VariableId) (s : S) → Contains variables v → solvable_of atoms v.0 ≡ Some s → Contains list (record { solvable = s; name = name })
   pub all : (o : Offered N S) → Contains list o → (o.name ≡ name) × ((v : VariableId) × Contains variables v × (solvable_of atoms v.0 ≡ Some o.solvable))
 
-pub of_none : {N S : Type 0} (atoms : List (ProofAtom N S)) (name : N) → AreOf atoms [] name []
-of_none atoms name = record { each = λ v s h is. absurd (contains_none v h); all = λ o h. absurd (contains_none o h) }
-
 pub of_more : {N S : Type 0} (atoms : List (ProofAtom N S)) (vs : List VariableId) (name : N) (list : List (Offered N S)) (v : VariableId) (s : S) → solvable_of atoms v.0 ≡ Some s → AreOf atoms vs name list → AreOf atoms (vs ++ v ∷ []) name (list ++ record { solvable = s; name = name } ∷ [])
 of_more {N} {S} atoms vs name list v s is h = record {
   each = λ w t a at. elim (contains_parts w vs (v ∷ []) a) [
@@ -176,26 +173,12 @@ module _ {N S : Type 0} (same : S → S → Bool) (exact : IsExact same) where
 
   -- ---- solvables of recorded packages
 
-  pub admits_none : (e : Encoder N S) → IsBuilt e → Admits same [] e e
-  admits_none e built = record { added = []; each = λ o h named. absurd (contains_none o h); only = λ o h. absurd (contains_none o h); adds = adds_none e built }
-
   pub admits_other : (o : Offered N S) (e : Encoder N S) → IsBuilt e → (Contains e.recorded.at_least_one.keys o.name → ⊥) → Admits same (o ∷ []) e e
   admits_other o e built other = record {
     added = [];
     each = λ q h named. absurd (other (subst (λ (y : Offered N S). Contains e.recorded.at_least_one.keys y.name) (contains_one q o h) named));
     only = λ q h. absurd (contains_none q h);
     adds = adds_none e built;
-  }
-
-  pub admits_then : (xs ys : List (Offered N S)) (a b c : Encoder N S) → Admits same xs a b → Admits same ys b c → Admits same (xs ++ ys) a c
-  admits_then xs ys a b c f g = record {
-    added = f.added ++ g.added;
-    each = λ q h named. elim (contains_parts q xs ys h) [
-      | inl k ↦ contains_left q f.added g.added (f.each q k named)
-      | inr k ↦ contains_right q f.added g.added (g.each q k (subst (λ ks. Contains ks.keys q.name) (sym f.adds.at_least_one) named))
-    ];
-    only = λ q h. elim (contains_parts q f.added g.added h) [ inl k ↦ contains_left q xs ys (f.only q k) | inr k ↦ contains_right q xs ys (g.only q k) ];
-    adds = adds_then f.added g.added a b c f.adds g.adds;
   }
 
   -- ---- a package of a case

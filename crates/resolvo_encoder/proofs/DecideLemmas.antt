@@ -269,10 +269,6 @@ trail_values count cs es map t mapped = record {
 -- ---- the reason of a decision
 
 module _ {N S : Type 0} (same : S → S → Bool) (p : Packages N S) (root : Rules) (e : Encoder N S) where
-  -- the values in the search's map are those that its trail makes true
-  pub search_values : IsEncoding same p root e → (map : List (Option Assignment)) → ((v : ℕ) → at map v ≡ assigned e.coding.search.tracker.trail v) → AreValues (value_at map) (made_true (history e.coding.search))
-  search_values holds map mapped = trail_values (count_of e.coding.search) (clauses_of e.coding.search) e.coding.search.tracker.trail map holds.coding.ready.state.trail mapped
-
   -- a variable's origin is known where the variable is true
   pub atom_known : (v : VariableId) (a : ProofAtom N S) → Represents e.coding.atoms.keys v a → has (made_true (history e.coding.search)) (yes v) ≡ true → Contains (known_of (origin e.coding.atoms.keys) (history e.coding.search)) (plus (atom_of a))
   atom_known v a present t =
