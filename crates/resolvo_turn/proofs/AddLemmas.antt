@@ -161,18 +161,6 @@ fires_needs {N} {S} index a b f = record {
   fired = f.prefix;
 }
 
--- the search adds nothing else
-pub goes_needs : {N S : Type 0} (a b : Encoder N S) → GoesOn a b → KeepsTurns a b → AddsNeeds a b
-goes_needs {N} {S} a b f turn = record {
-  grows = f.grows;
-  turn = turn;
-  softs = ap (λ (y : EncodedOnce N S). y.softs.items) f.rest.recorded;
-  parents = prefix_equal a.parents.keys b.parents.keys (ap (λ ks. ks.keys) f.rest.parents);
-  encoded = f.rest.encoded;
-  deferred = prefix_equal a.deferred.items b.deferred.items (ap (λ ds. ds.items) f.rest.deferred);
-  fired = prefix_equal a.fired.keys b.fired.keys (ap (λ ks. ks.keys) f.rest.fired);
-}
-
 -- a case that wasn't fired before is one more
 pub fired_more : {N S : Type 0} (index : ℕ) (a b c : Encoder N S) → b.fired ≡ a.fired → (Contains a.fired.keys index → ⊥) → Fires index b c → FiresMore a c
 fired_more {N} {S} index a b c same waits f =

@@ -215,7 +215,3 @@ decided_of (Some v) e (Some r) refusal has = inl (refusal, has)
 pub begun_of : {N S : Type 0} (soft : Option VariableId) (e : Encoder N S) (r : FinalConflict) → IsBegunBy soft e (Some r) → IsDecisionOf soft e (Some r)
 begun_of None e r h = absurd h
 begun_of (Some v) e r h = inr h
-
--- a conflict is one of the encoding that was decided
-pub refused_of : {N S : Type 0} (same : S → S → Bool) (soft : Option VariableId) (e : Encoder N S) (r : FinalConflict) (o : Option FinalConflict) → o ≡ Some r → IsDecisionOf soft e o → IsTurn same soft e (Some r)
-refused_of same soft e r o is h = subst (λ (x : Option FinalConflict). IsDecisionOf soft e x) is h

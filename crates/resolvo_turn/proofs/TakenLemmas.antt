@@ -37,10 +37,6 @@ use Rattle.resolvo_turn.proofs.EndLemmas.{contains_longer}
 pub below_passes : (level : ℕ) (h : List Entry) (e : Entry) (older : List Entry) → h ≡ e ∷ older → level ≤ e.level → below level h ≡ below level older
 below_passes level h e older is high = ap (below level) is ∙ ap (λ (b : Bool). cond b (e ∷ older) (below level older)) (le-ltb e.level level high)
 
--- one of an earlier turn is, with all before it
-pub below_stops : (level : ℕ) (h : List Entry) (e : Entry) (older : List Entry) → h ≡ e ∷ older → e.level < level → below level h ≡ h
-below_stops level h e older is low = below_all level h (let top : top_level h ≡ e.level = ap top_level is in omega arith)
-
 -- ---- the turn's entries
 
 -- the trail's oldest entry is of the first level
