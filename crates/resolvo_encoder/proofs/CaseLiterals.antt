@@ -74,6 +74,9 @@ pub record AreOf {N S : Type 0} (atoms : List (ProofAtom N S)) (variables : List
   pub each : (v : VariableId) (s : S) → Contains variables v → solvable_of atoms v.0 ≡ Some s → Contains list (record { solvable = s; name = name })
   pub all : (o : Offered N S) → Contains list o → (o.name ≡ name) × ((v : VariableId) × Contains variables v × (solvable_of atoms v.0 ≡ Some o.solvable))
 
+pub of_none : {N S : Type 0} (atoms : List (ProofAtom N S)) (name : N) → AreOf atoms [] name []
+of_none atoms name = record { each = λ v s h is. absurd (contains_none v h); all = λ o h. absurd (contains_none o h) }
+
 pub of_more : {N S : Type 0} (atoms : List (ProofAtom N S)) (vs : List VariableId) (name : N) (list : List (Offered N S)) (v : VariableId) (s : S) → solvable_of atoms v.0 ≡ Some s → AreOf atoms vs name list → AreOf atoms (vs ++ v ∷ []) name (list ++ record { solvable = s; name = name } ∷ [])
 of_more {N} {S} atoms vs name list v s is h = record {
   each = λ w t a at. elim (contains_parts w vs (v ∷ []) a) [
