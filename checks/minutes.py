@@ -46,8 +46,9 @@ def is_below(pid: str, top: int) -> bool:
 
 
 def provers(top: int) -> dict[tuple[str, str], tuple[str, str, float]]:
-    """The prover's processes below this one: by id and start, their crate, kind and processor seconds."""
-    found = {}
+    """The prover's processes below this one: by id and start, their crate, kind and processor seconds. One that another prover began
+    is left out: when it ends, its seconds are among those of that one's children."""
+    found, parents = {}, {}
     for pid in filter(str.isdigit, os.listdir("/proc")):
         try:
             with open(f"/proc/{pid}/cmdline", encoding="utf-8", errors="replace") as it:
@@ -61,7 +62,9 @@ def provers(top: int) -> dict[tuple[str, str], tuple[str, str, float]]:
         # the process's own times and those of its ended children; and its start, since ids are reused
         seconds = sum(int(it) for it in stat[11:15]) / TICKS
         found[pid, stat[19]] = crate, kind_of(words), seconds
-    return found
+        parents[pid, stat[19]] = stat[1]
+    ids = {pid for pid, _ in found}
+    return {key: value for key, value in found.items() if parents[key] not in ids}
 
 
 class Watch(threading.Thread):
