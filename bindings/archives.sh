@@ -3,7 +3,7 @@
 # leaves out what `resolve_judge` doesn't reach) and libresolve.so.
 #
 # Usage: bindings/archives.sh FOLDER
-# Takes crates/resolve_c/out/libresolve_c.a, which `rt lib` leaves there, and the kit's C part (KIT/c/liblibc_c.a), which
+# Takes crates/resolve_c/out/libresolve_c.a, which `tools/prove.py resolve_c` leaves there, and the kit's C part (KIT/c/liblibc_c.a), which
 # passes requests for memory on to malloc, realloc and free.
 set -eu
 
@@ -12,7 +12,7 @@ top=$(cd "$(dirname "$0")/.." && pwd)
 kit=$(dirname "$(rt doc)")
 proved=$top/crates/resolve_c/out/libresolve_c.a
 heap=$kit/c/liblibc_c.a
-[ -f "$proved" ] || { echo "no $proved: run rt lib in crates/resolve_c" >&2; exit 1; }
+[ -f "$proved" ] || { echo "no $proved: run tools/prove.py resolve_c" >&2; exit 1; }
 
 mkdir -p "$to"
 to=$(cd "$to" && pwd)

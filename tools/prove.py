@@ -1,7 +1,7 @@
 #!/usr/bin/env python3
-"""Proves the program and the libraries below it side by side, and builds it.
+"""Proves the program, or a library, and the libraries below it side by side, and builds it.
 
-Usage: tools/prove.py [--anew] [CRATE]     (default: resolve)
+Usage: tools/prove.py [--anew] [--object] [CRATE]     (default: resolve)
 
 `rt run` proves one library after the other. This makes a copy of the crate with what lies below it, without wrong bodies and without
 the crates of tests, and runs the gate (`rt ci`) over the copy. As many proofs run side by side as there are processors with 4 GB each.
@@ -9,7 +9,8 @@ The proof that the longest chain of others waits for has two of them, or all whe
 Of four processors the others never take those two. `.ci/run` runs the whole gate in this order (`--gate`).
 RT_JOBS may name a number of proofs; then each has one processor.
 What this machine has proved before is kept, and isn't proved again; with `--anew` it is. The proved program is then in
-crates/CRATE/out, beside its object file.
+crates/CRATE/out, with `--object` beside its object file. Of a library for C (`resolve_c`) it is an archive. For an archive or an object
+the crate's own proof is made once more.
 The last lines are the verdict and the minutes. Status 1 where something isn't proved; then the repository is as it was.
 """
 import importlib.machinery
@@ -75,6 +76,12 @@ def copy(top: str, to: str, crate: str) -> List[str]:
     return names
 
 
+def is_archive(top: str, crate: str) -> bool:
+    """Whether `crates.txt` has the crate as a library for C."""
+    with open(os.path.join(top, "crates.txt"), encoding="utf-8") as file:
+        return "staticlib" in lines_of(file.read())[crate].partition(":")[0].split()
+
+
 def minutes(text: str) -> Dict[str, float]:
     """The minutes of the crates' proofs, by their names."""
     rows = (line.split() for line in text.split("\n") if line and not line.startswith("#"))
@@ -135,14 +142,30 @@ def side_by_side(tasks: Dict[Any, Task], chain: Dict[Any, float], lanes: int, mo
     return given
 
 
-def gate(folder: str, flags: List[str]) -> int:
-    """Runs `rt ci` in a folder. By itself rt gives each proof one processor as long as others are ready, and the longest chain decides."""
-    os.chdir(folder)
+def rt_module() -> Any:
+    """The kit's command `rt`, as a module."""
     path = os.path.realpath(shutil.which("rt") or "/opt/rattle/bin/rt")
     loader = importlib.machinery.SourceFileLoader("rt_main", path)
     module = importlib.util.module_from_spec(importlib.util.spec_from_loader("rt_main", loader))
     sys.dont_write_bytecode = True
     loader.exec_module(module)
+    return module
+
+
+def build(folder: str, crate: str, file: str) -> int:
+    """Builds the archive or the object of a crate over the libraries that the gate left in a folder. `rt lib` would prove each of them anew."""
+    os.chdir(folder)
+    module = rt_module()
+    found = {it.name: it for it in module.crates_of(folder)}[crate]
+    words = found.words(["--jobs", str(min(MOST, module.processors()))], keeps=False)
+    command = [module.rtlib.RATTLE, "build", *words, "--toolchain", f"{module.KIT}/toolchain", "--backend", "llvm", "-o", f"out/{file}"]
+    return subprocess.run(command, cwd=found.folder, check=False).returncode
+
+
+def gate(folder: str, flags: List[str]) -> int:
+    """Runs `rt ci` in a folder. By itself rt gives each proof one processor as long as others are ready, and the longest chain decides."""
+    os.chdir(folder)
+    module = rt_module()
     number = os.environ.get("RT_JOBS", "")
     lanes = int(number) if number.isdigit() else max(1, min(module.processors(), int(module.free() // MEMORY)))
     most = 1 if number.isdigit() else MOST
@@ -161,8 +184,10 @@ def main(words: List[str]) -> int:
     """The command line."""
     if words[:1] == ["--gate"]:
         return gate(words[1], words[2:])
+    if words[:1] == ["--build"]:
+        return build(*words[1:])
     flags = [word for word in words if word == "--anew"]
-    names = [word for word in words if word != "--anew"]
+    names = [word for word in words if word not in ("--anew", "--object")]
     if len(names) > 1 or names and names[0].startswith("-"):
         print(__doc__, end="")
         return 2
@@ -174,7 +199,10 @@ def main(words: List[str]) -> int:
         print(f"prove.py: {len(names)} crates", flush=True)
         status = subprocess.run([sys.executable, os.path.abspath(__file__), "--gate", folder, *flags], check=False).returncode
         made, to = (os.path.join(at, "crates", crate, "out") for at in (folder, TOP))
-        built = [name for name in (crate, f"{crate}.o") if os.path.isfile(os.path.join(made, name))]
+        file = f"lib{crate}.a" if is_archive(folder, crate) else f"{crate}.o" if "--object" in words else ""
+        if file and not status:
+            status = subprocess.run([sys.executable, os.path.abspath(__file__), "--build", folder, crate, file], check=False).returncode
+        built = [name for name in (crate, file) if name and os.path.isfile(os.path.join(made, name))]
         if not status:
             os.makedirs(to, exist_ok=True)
             for name in built:
@@ -182,7 +210,7 @@ def main(words: List[str]) -> int:
                 shutil.copy(os.path.join(made, name), os.path.join(to, f"{name}.new"))
                 os.replace(os.path.join(to, f"{name}.new"), os.path.join(to, name))
     minutes = (time.monotonic() - begun) / 60
-    where = f"; the program is crates/{crate}/out/{crate}" if built and not status else ""
+    where = f"; it is crates/{crate}/out/{built[0]}" if built and not status else ""
     print(f"prove.py: {crate} and what lies below it {'NOT ' if status else ''}proved, in {minutes:.1f} minutes{where}")
     return 1 if status else 0
 

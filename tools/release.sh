@@ -4,7 +4,7 @@
 #
 # Usage: tools/release.sh [FOLDER]     (default: out)
 # VERSION is taken from the environment, else it is the day of the commit. GATE_LOG may name what the gate printed over this commit:
-# its last lines go into PROVENANCE. `rt run` and `rt lib` prove and build what isn't built yet. Needs a C compiler, git and xz.
+# its last lines go into PROVENANCE. tools/prove.py proves and builds what isn't proved on this machine. Needs a C compiler, git and xz.
 set -eu
 
 to=${1:-out}
@@ -16,8 +16,9 @@ version=${VERSION:-$(date -u -d "@$seconds" +%Y.%m.%d)}
 name=resolve-$version-x86_64-linux
 kit=$(dirname "$(rt doc)")
 
-(cd crates/resolve && rt run -- solve ../../examples/app.catalogue ../../examples/app.request) | cmp - examples/app.report
-(cd crates/resolve_c && rt lib) >&2
+python3 tools/prove.py --object >&2
+python3 tools/prove.py resolve_c >&2
+crates/resolve/out/resolve solve examples/app.catalogue examples/app.request | cmp - examples/app.report
 
 mkdir -p "$to"
 to=$(cd "$to" && pwd)

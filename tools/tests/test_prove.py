@@ -4,7 +4,7 @@ import tempfile
 import unittest
 from typing import List, Tuple
 
-from tools.prove import TOP, Task, chains, closure, copy, lines_of, minutes, next_tasks, side_by_side
+from tools.prove import TOP, Task, chains, closure, copy, is_archive, lines_of, minutes, next_tasks, side_by_side
 
 LISTED = """# the lowest
 low:
@@ -39,6 +39,10 @@ class Closures(unittest.TestCase):
             names = closure(lines_of(file.read()), "resolve")
         self.assertIn("resolvo_sat", names)
         self.assertFalse([name for name in names if "tests" in name or "rows" in name])
+
+
+    def test_one_crate_is_a_library_for_c(self) -> None:
+        self.assertEqual([name for name in ("resolve", "resolve_run", "resolve_c") if is_archive(TOP, name)], ["resolve_c"])
 
 
 class Order(unittest.TestCase):
