@@ -6,7 +6,7 @@ Defaults: 500 pairs, 500 reports, crates/resolve/out/resolve (which `rt run` lea
 are checked.
 Pairs are those of examples/ and tools/tests/data/, and generated ones. Over each that installs, the lock is read back, and the
 judge accepts the report over the frozen catalogue. Solving again with `--frozen` or `--keep`, also with newer versions on top,
-gives the same entries. The exception is a line that names several packages; how often they differed is printed. With `--wish`
+gives the same entries. The exception is a line with several alternatives; how often they differed is printed. With `--wish`
 each entry stays. A locked version that is gone gets its named error. Reports are of a plain prover, over catalogues with
 dictionaries of awkward names, with messages of all sentences. Real names and JSON that are read back give the same bytes, and
 every view prints. The page escapes each word and loads nothing from outside.
@@ -156,10 +156,10 @@ def entries(report):
 
 
 def has_alternatives(catalogue, request):
-    """Whether a line leaves a choice between packages."""
+    """Whether a line has several alternatives: the first that matches is tried first, also where another names a favoured version."""
     listed = texts.read_catalogue(catalogue)
     lines = listed.lines + texts.read_request(request, listed).lines
-    return any(isinstance(line, texts.NeedsLine) and len({s.package for s in line.alternatives}) > 1 for line in lines)
+    return any(isinstance(line, texts.NeedsLine) and len(line.alternatives) > 1 for line in lines)
 
 
 def newer(catalogue, report):
