@@ -6,7 +6,8 @@ Usage: tools/prove.py [--anew] [--object] [CRATE]     (default: resolve)
 `rt run` proves one library after the other. This makes a copy of the crate with what lies below it, without wrong bodies and without
 the crates of tests, and runs the gate (`rt ci`) over the copy. As many proofs run side by side as there are processors with 4 GB each.
 The proof that the longest chain of others waits for has two of them, or all where it is alone; how long a chain is, tools/minutes.txt says.
-Of four processors the others never take those two. `.ci/run` runs the whole gate in this order (`--gate`).
+The others leave it as many of four as it has, so that the next of its chain has them too. `.ci/run` runs the whole gate in this order
+(`--gate`).
 RT_JOBS may name a number of proofs; then each has one processor.
 What this machine has proved before is kept, and isn't proved again; with `--anew` it is. The proved program is then in
 crates/CRATE/out, with `--object` beside its object file. Of a library for C (`resolve_c`) it is an archive. For an archive or an object
