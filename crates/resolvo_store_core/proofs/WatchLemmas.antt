@@ -1,5 +1,5 @@
 -- Lemmas on the lists that the calls of a watch map write, as functions of a literal.
-use Rattle.std.proofs.Common.{◌≡◌, ℕ, zero, suc, ◌+◌, ◌<◌, ◌≤◌, ◌⊎◌, inl, inr, true, false, cond, List, [], ◌∷◌, ◌++◌, take, drop, map, length, Option, Some, None, refl, sym, ◌∙◌, ap, subst, arith, eqb, eq-eqb, ne_eqb, length-append}
+use Rattle.std.proofs.Common.{◌≡◌, ℕ, zero, suc, ◌+◌, ◌<◌, ◌≤◌, inl, inr, true, false, cond, List, [], ◌∷◌, ◌++◌, take, drop, map, length, Option, Some, None, refl, sym, ◌∙◌, ap, subst, arith, eqb, eq-eqb, ne_eqb, length-append}
 use Rattle.std.specs.Prelude.{slice_get, slice_set}
 use Rattle.std.proofs.lemmas.List.{length-map}
 use Rattle.resolvo_pool_core.specs.declared.id.ClauseId.{ClauseId}
@@ -10,9 +10,9 @@ use Rattle.resolvo_store_core.specs.declared.watch_map.WatchMap.{WatchMap}
 use Rattle.resolvo_store_core.specs.declared.watch_map.WatchMapCursor.{WatchMapCursor}
 use Rattle.resolvo_store_core.specs.declared.watch_map.WatchLink.{WatchLink}
 use Rattle.resolvo_store_core.specs.Links.{first_at, next_at, clause_of, chain, list_in, before_in, watchers_in, AreLists, IsPlaced, IsUnlinked, KeepsLinks}
-use Rattle.resolvo_store_core.specs.Watches.{links, watchers, pair_at, IsAt, IsWatched, StartsIn, MovesIn, Moves, PutsFirst, TakesOut, SameLists}
-use Rattle.resolvo_store_core.proofs.LinkLemmas.{got, got_within, chain_length, added_lists, clause_of-push, taken, up, up_in, not_up, put_in, taken_in, put_here, put_there, taken_here, taken_there, taken_was, taken_before, taken_behind, lists_are}
-use Rattle.resolvo_store_core.proofs.Watched.{differs_sym, both_false, cases_literal, index_differs, moved_well, pair_of_watcher, not_same_watch}
+use Rattle.resolvo_store_core.specs.Watches.{links, watchers, pair_at, IsFreeLink, IsAt, IsWatched, StartsIn, MovesIn, Moves, PutsFirst, TakesOut, SameLists}
+use Rattle.resolvo_store_core.proofs.LinkLemmas.{got, got_within, chain_length, added_lists, clause_of-push, taken, up, up_in, not_up, put_in, put_from, taken_in, put_here, put_there, taken_here, taken_there, taken_was, taken_before, taken_behind, lists_are}
+use Rattle.resolvo_store_core.proofs.Watched.{differs_sym, both_false, index_differs, moved_well, pair_of_watcher, not_same_watch}
 
 map_kept : {A : Type 0} (f g : ℕ → A) (xs : List ℕ) → ((a n : ℕ) → slice_get xs a ≡ Some n → f n ≡ g n) → map f xs ≡ map g xs
 map_kept f g [] h = refl
@@ -62,6 +62,23 @@ added_free old fs' ls' x n same more at =
       in_range = omega arith;
       free = λ i a h. let k : n < length old.links.items = old.linked.in_range i a n (ap (λ (xs : List ℕ). slice_get xs a) (sym (same.lists i)) ∙ h) in omega arith;
     }
+
+-- a free link stays free where all links are in the lists as before
+pub still_free : (old : WatchMap) (fs' : List ℕ) (ls' : List WatchLink) (n : ℕ) → KeepsLinks old.firsts.items old.links.items fs' ls' → IsFreeLink old n → IsUnlinked fs' ls' n
+still_free old fs' ls' n same is = record {
+  in_range = let low : n < length old.links.items = is.in_range in let more : length old.links.items ≤ length ls' = same.more in omega arith;
+  free = λ i a h. is.free i a (ap (λ (xs : List ℕ). slice_get xs a) (sym (same.lists i)) ∙ h);
+}
+
+-- so does one behind the link that is put first
+pub put_free : (old : WatchMap) (fs' : List ℕ) (ls' : List WatchLink) (i n m : ℕ) → AreLists fs' ls' (put_in i n (list_in old.firsts.items old.links.items)) → length ls' ≡ length old.links.items → n < m → IsFreeLink old m → IsUnlinked fs' ls' m
+put_free old fs' ls' i n m are long apart is = record {
+  in_range = let low : m < length old.links.items = is.in_range in omega arith;
+  free = λ j a h. elim (put_from (list_in old.firsts.items old.links.items) i n j a m (ap (λ (xs : List ℕ). slice_get xs a) (sym (lists_are fs' ls' _ are j)) ∙ h)) [
+    | inl e ↦ let same : m ≡ n = e.0 in absurd (omega arith)
+    | inr w ↦ is.free j w.place w.was
+  ];
+}
 
 -- there are more lists, which are empty
 pub same_more : (old : WatchMap) (fs' : List ℕ) (ls' : List WatchLink) → ((i : ℕ) → first_at fs' i ≡ first_at old.firsts.items i) → ls' ≡ old.links.items → KeepsLinks old.firsts.items old.links.items fs' ls'
@@ -172,13 +189,9 @@ starts_in c p a b d differ one two = record {
   others = λ l n. two.others l (both_false _ _ n).1 ∙ one.others l (both_false _ _ n).0;
 }
 
--- a clause that was inserted first and removed again
-pub put_and_taken : (c : ClauseId) (l : Signed) (a b b' d : Signed → List ClauseId) → PutsFirst c l a b → SameLists b b' → TakesOut l 0 b' d → SameLists a d
-put_and_taken c l a b b' d put same out m = go (cases_literal l m)
-  where
-    go : (l ≡ m) ⊎ (same_literal l m ≡ false) → d m ≡ a m
-    go (inl e) = subst (λ (x : Signed). d x ≡ a x) e (out.taken ∙ ap (λ (xs : List ClauseId). drop 1 xs) (same l ∙ put.put))
-    go (inr n) = out.others m n ∙ same m ∙ put.others m n
+-- a clause that was inserted first after calls that changed no list
+pub put_same : (c : ClauseId) (l : Signed) (a a' b : Signed → List ClauseId) → SameLists a a' → PutsFirst c l a' b → PutsFirst c l a b
+put_same c l a a' b same put = record { put = put.put ∙ ap (λ (xs : List ClauseId). c ∷ xs) (same l); others = λ m d. put.others m d ∙ same m }
 
 pub moved_between : (c : ClauseId) (from to : Signed) (place : ℕ) (a b d : Signed → List ClauseId) → same_literal from to ≡ false → slice_get (a from) place ≡ Some c → TakesOut from place a b → PutsFirst c to b d → MovesIn c from place to a d
 moved_between c from to place a b d apart was_in out put = record {

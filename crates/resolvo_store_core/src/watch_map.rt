@@ -82,15 +82,13 @@ impl WatchMap {
         ensures err { OnErr result (SameLists (watchers self.old) (watchers self.new)) }
         ensures refusal { IsOkUnless result Memory }
     {
-        self.put_first(watched.first, clause)?;
-        match self.put_first(watched.second, clause) {
-            Ok(()) => Ok(()),
-            Err(want) => {
-                let cursor = self.cursor(watched.first);
-                self.take_out(&cursor);
-                Err(want)
-            }
-        }
+        self.reserve(watched.first)?;
+        self.reserve(watched.second)?;
+        let link = self.add_link(clause)?;
+        let other = self.add_link(clause)?;
+        self.link_first(watched.first, link);
+        self.link_first(watched.second, other);
+        Ok(())
     }
 
     /// A cursor at the start of the clauses that watch a literal.
@@ -239,24 +237,12 @@ impl WatchMap {
         }
     }
 
-    /// Inserts a clause at the front of a literal's list.
-    fn put_first(&mut self, literal: Literal, clause: ClauseId) -> R<()>
-        ensures put { OnOk result (PutsFirst clause literal (watchers self.old)
-            (watchers self.new)) }
-        ensures err { OnErr result (SameLists (watchers self.old) (watchers self.new)) }
-        ensures refusal { IsOkUnless result Memory }
-    {
-        self.reserve(literal)?;
-        let link = self.add_link(clause)?;
-        self.link_first(literal, link);
-        Ok(())
-    }
-
     /// Adds a link that is in no list. A map has fewer than 2^32 links, and refuses one more as it
     /// does for want of memory.
     fn add_link(&mut self, clause: ClauseId) -> R<u32>
         ensures same { SameLists (watchers self.old) (watchers self.new) }
         ensures links { SameLinks self.old self.new }
+        ensures last { IfOk result (λ n. n ≡ length self.old.links.items) }
         ensures free { IfOk result (λ n. IsFreeLink self.new n) }
         ensures clause { IfOk result (λ n. clause_of self.new.links.items n ≡ clause) }
         ensures room { (l : Signed) → HasPlace self.old l → HasPlace self.new l }
@@ -279,6 +265,10 @@ impl WatchMap {
         ensures others { (l : Signed)
             → same_literal literal l ≡ false
             → links self.new l ≡ links self.old l }
+        ensures clauses { (n : ℕ)
+            → clause_of self.new.links.items n
+            ≡ clause_of self.old.links.items n }
+        ensures later { (n : ℕ) → link < n → IsFreeLink self.old n → IsFreeLink self.new n }
         ensures room { (l : Signed) → HasPlace self.old l → HasPlace self.new l }
     {
         let index = literal.to_index();

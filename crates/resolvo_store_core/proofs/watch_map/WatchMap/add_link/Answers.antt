@@ -27,6 +27,9 @@ returns-clause-same c = same_watchers c.args.self.now _ _ (same_added c.args.sel
 pub returns-clause-links : goal.returns-clause-links
 returns-clause-links c = same_added c.args.self.now _ _ _ refl c.in_ok-push.ensures.items
 
+pub returns-clause-last : goal.returns-clause-last
+returns-clause-last c = omega (arith, c.args.self.now.links.ok, c.len-link.ensures)
+
 pub returns-clause-free : goal.returns-clause-free
 returns-clause-free c =
     let at : c.len-link.result ≡ length c.args.self.now.links.items = omega (arith, c.args.self.now.links.ok, c.len-link.ensures) in

@@ -1,8 +1,8 @@
-use Rattle.std.proofs.Common.{◌≡◌, ◌<◌, ◌≤◌, ◌+◌, ℕ, suc, length, slice_set, refl, subst, arith}
+use Rattle.std.proofs.Common.{◌≡◌, ◌<◌, ◌≤◌, ◌+◌, ℕ, suc, length, slice_set, length-set, refl, subst, arith}
 use Rattle.resolvo_store_core.specs.Links.{AreLinked}
 use Rattle.resolvo_store_core.specs.declared.watch_map.WatchLink.{WatchLink}
 use Rattle.resolvo_store_core.proofs.LinkLemmas.{first_linked, few_set, linked, clause_of-set}
-use Rattle.resolvo_store_core.proofs.WatchLemmas.{put_others, put_watchers}
+use Rattle.resolvo_store_core.proofs.WatchLemmas.{put_others, put_watchers, put_free}
 use Rattle.resolvo_store_core.proofs.watch_map.WatchMap.link_first.Goals as goal
 
 pub overflow_add-link : goal.overflow_add-link
@@ -39,3 +39,16 @@ returns-clause-others c =
     let e : c.args.link + 1 ≡ suc c.args.link = omega arith in
     rw e (put_others s _ _ c.args.literal c.to_index-index.result c.args.link at
     (first_linked s.firsts.items s.links.items c.to_index-index.result c.args.link c.index.result.now c.index_mut.result.now s.linked c.requires.free.free (omega arith) c.requires.free.in_range c.index.ensures))
+
+pub returns-clause-clauses : goal.returns-clause-clauses
+returns-clause-clauses c = λ m. clause_of-set c.args.self.now.links.items c.args.link m c.index_mut.result.now _ c.requires.free.in_range c.index_mut.ensures.value refl
+
+pub returns-clause-later : goal.returns-clause-later
+returns-clause-later c = λ m apart free.
+    let s = c.args.self.now in
+    let room = c.requires.room in
+    let at = c.to_index-index.ensures.index in
+    let e : c.args.link + 1 ≡ suc c.args.link = omega arith in
+    rw e (put_free s _ _ c.to_index-index.result c.args.link m
+    (first_linked s.firsts.items s.links.items c.to_index-index.result c.args.link c.index.result.now c.index_mut.result.now s.linked c.requires.free.free (omega arith) c.requires.free.in_range c.index.ensures)
+    (length-set s.links.items c.args.link (record { clause = c.index_mut.result.now.clause; next = c.index.result.now })) apart free)
