@@ -13,7 +13,7 @@ use std::hash::Hash;
 use std::marker::Model;
 
 /// Up to so many values are searched one by one.
-const FEW: usize = 8;
+const FEW: usize = 32;
 
 /// Values in the order of insertion.
 #[derive(Drop)]
