@@ -59,12 +59,19 @@ impl<V: Copy + Eq + Hash + Drop> AtMostOnceTracker<V> {
         self.helpers.as_slice()
     }
 
+    /// Whether a variable is tracked.
+    pub fn contains(&self, variable: V) -> bool
+        ensures { result ≡ among V.eq self.now variable }
+    {
+        self.variables.contains(variable)
+    }
+
     /// Whether tracking a variable needs a new helper: it is new, and all places of the helpers are
     /// used.
     pub fn needs_helper(&self, variable: V) -> bool
         ensures { result ≡ needs_helper V.eq self.now variable }
     {
-        !self.variables.contains(variable) && self.is_full()
+        self.is_full() && !self.variables.contains(variable)
     }
 
     /// Whether all places that the helpers distinguish are used.
@@ -96,7 +103,6 @@ impl<V: Copy + Eq + Hash + Drop> AtMostOnceTracker<V> {
             return Ok(false);
         }
         let before = out.len();
-        self.helpers.reserve(count_of(helper))?;
         let variables = self.variables.as_slice();
         match tie(variables, self.helpers.as_slice(), variable, helper, out) {
             Ok(()) => {}
@@ -105,18 +111,31 @@ impl<V: Copy + Eq + Hash + Drop> AtMostOnceTracker<V> {
                 return Err(want);
             }
         }
-        match self.variables.push(variable) {
-            Ok(()) => {}
+        match self.track(variable, helper) {
+            Ok(()) => Ok(true),
             Err(want) => {
                 out.truncate(before);
-                return Err(want);
+                Err(want)
             }
         }
+    }
+
+    /// Tracks a variable that isn't tracked, with a new helper where it needs one. The caller adds
+    /// the clauses.
+    pub fn track(&mut self, variable: V, helper: Option<V>) -> R<()>
+        requires new { among V.eq self.old variable ≡ false }
+        requires helper { is_some helper ≡ needs_helper V.eq self.old variable }
+        ensures tracker { OnOk result (self.new ≡ tracked V.eq self.old variable helper) }
+        ensures err { OnErr result (self.new ≡ self.old) }
+        ensures refusal { IsOkUnless result Memory }
+    {
+        self.helpers.reserve(count_of(helper))?;
+        self.variables.push(variable)?;
         match helper {
-            None => Ok(true),
+            None => Ok(()),
             Some(helper) => {
                 self.helpers.push(helper).unwrap();
-                Ok(true)
+                Ok(())
             }
         }
     }
