@@ -10,6 +10,7 @@ pub mod Growth
 pub mod ChosenLemmas
 pub mod Choices
 pub mod TieLemmas
+pub mod NewTies
 pub mod TrackLemmas
 pub mod NameLemmas
 pub mod RegisterLemmas

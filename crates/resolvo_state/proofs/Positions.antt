@@ -101,6 +101,10 @@ get_parts [] ys i x h = inr (i, omega arith, h)
 get_parts (z ∷ xs) ys zero x h = inl h
 get_parts (z ∷ xs) ys (suc i) x h = elim (get_parts xs ys i x h) [ inl a ↦ inl a | inr (j, e, at) ↦ (let same : i ≡ length xs + j = e in inr (j, omega arith, at)) ]
 
+pub get_behind : {X : Type 0} (xs ys : List X) (j : ℕ) (x : X) → slice_get ys j ≡ Some x → slice_get (xs ++ ys) (length xs + j) ≡ Some x
+get_behind [] ys j x h = let e : j ≡ 0 + j = omega arith in subst (λ k. slice_get ys k ≡ Some x) e h
+get_behind (z ∷ xs) ys j x h = let e : suc (length xs + j) ≡ length (z ∷ xs) + j = omega arith in subst (λ k. slice_get (z ∷ (xs ++ ys)) k ≡ Some x) e (get_behind xs ys j x h)
+
 -- an item of a list that was mapped
 pub get_mapped : {X Y : Type 0} (f : X → Y) (xs : List X) (i : ℕ) (y : Y) → slice_get (map f xs) i ≡ Some y → (x : X) × (slice_get xs i ≡ Some x) × (f x ≡ y)
 get_mapped f [] i y h = absurd cc

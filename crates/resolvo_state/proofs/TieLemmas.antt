@@ -1,7 +1,7 @@
 -- Clauses that encode the digits of places.
-use Rattle.std.proofs.Common.{◌≡◌, ℕ, ◌+◌, ◌<◌, ◌≤◌, inl, inr, Bool, not, List, [], ◌∷◌, ◌++◌, length, take, get_or, min, Some, refl, sym, ◌∙◌, ap, subst, arith}
+use Rattle.std.proofs.Common.{◌≡◌, ℕ, ◌+◌, ◌<◌, ◌≤◌, inl, inr, Bool, not, List, [], ◌∷◌, ◌++◌, length, take, get_or, Some, refl, sym, ◌∙◌, ap, subst, arith}
 use Rattle.std.specs.Prelude.{slice_get}
-use Rattle.std.proofs.Math.Nat.{min-eq_left, min-eq_right}
+use Rattle.std.proofs.Math.Nat.{min-eq_right}
 use Rattle.std.proofs.lemmas.List.{length-append, length-take-le, take_more, take_all}
 use Rattle.std.proofs.lemmas.Option.{slice_get-get_or}
 use Rattle.resolvo_pool_core.specs.declared.id.ClauseId.{ClauseId}
@@ -23,8 +23,8 @@ use Rattle.resolvo_state.specs.declared.solver_state.SolverState.{SolverState}
 use Rattle.resolvo_state.specs.Atoms.{Represents, solvable_of, bit_of}
 use Rattle.resolvo_state.specs.ClauseKinds.{kind_at, rules_in}
 use Rattle.resolvo_state.specs.SolverState.{IsCoding, Grows, AddsRule}
-use Rattle.resolvo_state.specs.Registered.{IsTie, place_from, IsTieClause, AddsTie, AddsTies}
-use Rattle.resolvo_state.proofs.Positions.{get_in_prefix, get_last, get_push}
+use Rattle.resolvo_state.specs.Registered.{place_from, IsTie, IsTieClause, AddsTie, AddsTies}
+use Rattle.resolvo_state.proofs.Positions.{get_in_prefix, get_last, get_push, get_parts, get_behind, prefix_long}
 use Rattle.resolvo_state.proofs.Origins.{represents_solvable, represents_same, bit_represents}
 use Rattle.resolvo_state.proofs.Rules.{rule_at_kind}
 use Rattle.resolvo_state.proofs.Growth.{grows_same, grows_then, trail_same, trail_then, represents_grow, kind_grows, clause_grows, below_or_not}
@@ -156,21 +156,6 @@ tie_rule name place tie c n s i t present is_bit =
     let value = sym t.is.value in
     (n, rule_at_kind c.kinds.items n (Digit name t.is.solvable place t.is.bit) t.kinds ∙ (λ j. Some (Rule.has_digit (one j) (bit j) (value j))))
 
--- the places go on up to the last one
-pub first_from : (first last : ℕ) → first ≤ last → first ≡ place_from first last 0
-first_from first last h = let e : first ≡ first + 0 = omega arith in sym (min-eq_left h) ∙ ap (λ k. min k last) e
-
-pub next_from : (first last i place next : ℕ) → place ≡ place_from first last i → next ≡ min (place + 1) last → next ≡ place_from first last (i + 1)
-next_from first last i place next e is = is ∙ elim (below_or_not (first + i) last) [
-  | inl below ↦
-      let here : place ≡ first + i = e ∙ min-eq_left (let h : first + i ≤ last = omega arith in h) in
-      let more : place + 1 ≡ first + (i + 1) = omega arith in
-      ap (λ k. min k last) more
-  | inr past ↦
-      let here : place ≡ last = e ∙ min-eq_right past in
-      min-eq_right (let h : last ≤ place + 1 = omega arith in h) ∙ sym (min-eq_right (let h : last ≤ first + (i + 1) = omega arith in h))
-]
-
 -- the next tie is of the next place
 pub tie_next : {N S : Type 0} (name : N) (ties : List Tie) (first last i : ℕ) (d : Tie) (place : ℕ) (a b : SolverState N S) → Grows a b → i < length ties → place ≡ place_from first last i
     → ((k : ℕ) (tie : Tie) → slice_get ties k ≡ Some tie → IsTie name a.atoms.keys (place_from first last k) tie) → IsTie name b.atoms.keys place (get_or ties i d)
@@ -187,3 +172,31 @@ all_next name ties first last i d place a b c below e all one =
 
 pub all_done : {N S : Type 0} (name : N) (ties : List Tie) (first last i : ℕ) (a b : SolverState N S) → length ties ≤ i → AddsTies name (take i ties) first last a b → AddsTies name ties first last a b
 all_done name ties first last i a b past all = subst (λ (xs : List Tie). AddsTies name xs first last a b) (take_all i ties past) all
+
+-- ties of one place after those of the places up to it
+pub all_both : {N S : Type 0} (name : N) (xs ys : List Tie) (first last : ℕ) (a b c : SolverState N S) → last ≤ first + length xs → AddsTies name xs first last a b → AddsTies name ys last last b c → AddsTies name (xs ++ ys) first last a c
+all_both name xs ys first last a b c past all more = record {
+  coding = more.coding;
+  grows = grows_then a b c all.grows more.grows;
+  trail = trail_then a b c all.trail more.trail;
+  atoms = more.atoms ∙ all.atoms;
+  each = λ i x h. elim (get_parts xs ys i x h) [
+    | inl at ↦
+        let (n, below, t) = all.each i x at in
+        let long : length b.search.clauses ≤ length c.search.clauses = prefix_long b.search.clauses c.search.clauses more.grows.clauses in
+        (n, omega arith, tie_stays name (place_from first last i) x b c n more.grows below t)
+    | inr (j, e, at) ↦ let (n, below, t) = more.each j x at in (n, below, subst (λ k. IsTieClause name k x c n) (later j i e) t)
+  ];
+  only = λ n low below. elim (below_or_not n (length b.search.clauses)) [
+    | inl old ↦ let (i, x, at, t) = all.only n low old in (i, x, get_in_prefix xs ys i x at, tie_stays name (place_from first last i) x b c n more.grows old t)
+    | inr new ↦ let (j, x, at, t) = more.only n new below in (length xs + j, x, get_behind xs ys j x at, subst (λ k. IsTieClause name k x c n) (later j (length xs + j) refl) t)
+  ];
+  same = λ e. (let (p, q) = both_none xs ys e in more.same q ∙ all.same p);
+}
+  where
+    later : (j i : ℕ) → i ≡ length xs + j → place_from last last j ≡ place_from first last i
+    later j i e = min-eq_right (let h : last ≤ last + j = omega arith in h) ∙ sym (min-eq_right (let h : last ≤ first + i = omega arith in h))
+
+    both_none : (us vs : List Tie) → us ++ vs ≡ [] → (us ≡ []) × (vs ≡ [])
+    both_none [] vs e = (refl, e)
+    both_none (u ∷ us) vs e = absurd cc

@@ -8,7 +8,7 @@ use Rattle.std.proofs.lemmas.Option.{slice_get_within}
 use Rattle.std.proofs.lemmas.Bool.{both_ways}
 use Rattle.indexmap.proofs.IndexTableLemmas.Probe.{pigeonhole}
 use Rattle.resolvo_pool_core.specs.declared.id.VariableId.{VariableId}
-use Rattle.resolvo_store_core.specs.AtMostOne.{Tracking, digit, ties, tie_all, among, needs_helper, tracked, new_ties}
+use Rattle.resolvo_store_core.specs.AtMostOne.{Tracking, digit, ties, tie_all, among, needs_helper, tracked}
 use Rattle.resolvo_store_core.proofs.Digits.{digit_below, digit_power}
 use Rattle.resolvo_sat.specs.State.{count_of}
 use Rattle.resolvo_sat.specs.RuleClauses.{Rule}
@@ -18,7 +18,7 @@ use Rattle.resolvo_state.specs.declared.solver_state.SolverState.{SolverState}
 use Rattle.resolvo_state.specs.Atoms.{Represents}
 use Rattle.resolvo_state.specs.ClauseKinds.{rules_in}
 use Rattle.resolvo_state.specs.SolverState.{IsCoding}
-use Rattle.resolvo_state.specs.Registered.{same_variable, IsTied, first_of, place_from, IsTie, AddsTies, GivesDigit, Tracks}
+use Rattle.resolvo_state.specs.Registered.{same_variable, IsTied, first_of, place_from, IsTie, AreTies, AddsTies, GivesDigit, Tracks}
 use Rattle.resolvo_state.proofs.Positions.{get_in_prefix, get_last, get_push, get_parts, get_mapped, get_contains, contains_get, get_below, prefix_same, once_push}
 use Rattle.resolvo_state.proofs.Origins.{represents_same}
 use Rattle.resolvo_state.proofs.Growth.{grows_same, grows_then, trail_same, trail_then, represents_grow, represents_in_range, rules_grow, below_or_not}
@@ -207,23 +207,9 @@ module _ {N S : Type 0} (name : N) (x : VariableId) (s : S) (t : Tracking Variab
   full_at_new true n some = absurd (both_ways _ n some)
   full_at_new false n some = eqb-true (length t.variables) (2 ^ length t.helpers) (sym n ∙ some)
 
-  -- with a variable ties are added, of the places one after another
-  pub new_are_ties : IsCoding a → (ts : List Tie) (first last : ℕ) → is_some o ≡ needs_helper same_variable t x → first ≡ first_of o last → last ≡ length t.variables → ts ≡ new_ties same_variable t x o
-      → (i : ℕ) (tie : Tie) → slice_get ts i ≡ Some tie → IsTie name b.atoms.keys (place_from first last i) tie
-  new_are_ties coding ts first last needed begins ends e i tie h =
-      subst (λ k. IsTie name b.atoms.keys (place_from k last i) tie) (sym begins) (subst (λ k. IsTie name b.atoms.keys (place_from (first_of o k) k i) tie) (sym ends)
-      (go (among same_variable t x) needed (subst (λ (us : List Tie). slice_get us i ≡ Some tie) e h)))
-    where
-      go : (q : Bool) → is_some o ≡ (not q && (length t.variables == 2 ^ length t.helpers)) → slice_get (cond q [] (tie_all t.variables t.helpers x o)) i ≡ Some tie → IsTie name b.atoms.keys (place_from (first_of o (length t.variables)) (length t.variables) i) tie
-      go true n f = absurd cc
-      go false n f = ties_are coding (full_at_new false n) i tie f
-
-  pub first_within : (first last : ℕ) → first ≡ first_of o last → first ≤ last
-  first_within first last e = go o e
-    where
-      go : (q : Option VariableId) → first ≡ first_of q last → first ≤ last
-      go None f = let same : first ≡ last = f in omega arith
-      go (Some v) f = let same : first ≡ 0 = f in omega arith
+  -- the ties of a new variable are of the places one after another
+  pub new_are_ties : IsCoding a → is_some o ≡ needs_helper same_variable t x → among same_variable t x ≡ false → AreTies name b.atoms.keys (first_of o (length t.variables)) (length t.variables) (tie_all t.variables t.helpers x o)
+  new_are_ties coding needed fresh i tie h = ties_are coding (full_at_new false (needed ∙ ap (λ q. not q && (length t.variables == 2 ^ length t.helpers)) fresh)) i tie h
 
   module _ (c : SolverState N S) (all : AddsTies name (tie_all t.variables t.helpers x o) (first_of o (length t.variables)) (length t.variables) b c) (full : is_some o ≡ (length t.variables == 2 ^ length t.helpers)) where
     tie_encoded : (v w : VariableId) (place : ℕ) (u : S) (i : ℕ) → Contains (tie_all t.variables t.helpers x o) (v, w, digit place i) → Represents c.atoms.keys v (Solvable u) → Represents c.atoms.keys w (Bit name i) → rules_in c.kinds.items (Rule.has_digit u i (digit place i))
@@ -295,35 +281,23 @@ module _ {N S : Type 0} (name : N) (x : VariableId) (s : S) (t : Tracking Variab
       same = λ h. absurd (both_ways _ fresh (contained_any (same_variable x) x t.variables h (eq-eqb x.0 x.0 refl)));
     }
 
-  tracks_same : IsCoding a → Contains t.variables x → Tracks name x t a t a
-  tracks_same coding h = record {
-    coding = coding;
-    grows = grows_same a;
-    trail = trail_same a;
-    tied = tied;
-    tracked = h;
-    prefix = prefix_same t.variables;
-    only = λ w i. inl i;
-    digits = λ n low below. absurd (omega arith);
-    same = λ i. refl;
-  }
+  -- the tracker takes a variable that it doesn't have, and its ties are added as clauses
+  pub track_is : (u : Tracking VariableId) (c : SolverState N S) → IsCoding a → is_some o ≡ needs_helper same_variable t x → among same_variable t x ≡ false → u ≡ tracked same_variable t x o
+      → AddsTies name (tie_all t.variables t.helpers x o) (first_of o (length t.variables)) (length t.variables) b c → Tracks name x t a u c
+  track_is u c coding needed fresh next all =
+      subst (λ (w : Tracking VariableId). Tracks name x t a w c) (sym (next ∙ ap (λ q. cond q t (longer t x o)) fresh))
+      (tracks_more c all (needed ∙ ap (λ q. not q && (length t.variables == 2 ^ length t.helpers)) fresh) coding fresh)
 
-  -- The tracker takes the variable, unless it has it, and its ties are added as clauses.
-  pub track_is : (u : Tracking VariableId) (ts : List Tie) (first last : ℕ) (c : SolverState N S) → IsCoding a → is_some o ≡ needs_helper same_variable t x → first ≡ first_of o last → last ≡ length t.variables → u ≡ tracked same_variable t x o → ts ≡ new_ties same_variable t x o
-      → AddsTies name ts first last b c → Tracks name x t a u c
-  track_is u ts first last c coding needed begins ends next are_new all =
-      go (among same_variable t x) refl (needed ∙ refl) next are_new
-    where
-      go : (q : Bool) → among same_variable t x ≡ q → is_some o ≡ (not q && (length t.variables == 2 ^ length t.helpers)) → u ≡ cond q t (longer t x o) → ts ≡ cond q [] (tie_all t.variables t.helpers x o) → Tracks name x t a u c
-      go true e n is are =
-          let (y, there, same) = any_contained (same_variable x) t.variables e in
-          let h : Contains t.variables x = subst (Contains t.variables) (sym (variable_one x y same)) there in
-          let none : o ≡ None = no_digit o n in
-          let unchanged : c ≡ a = all.same are ∙ given.same none in
-          subst (λ (w : Tracking VariableId). Tracks name x t a w c) (sym is) (subst (λ (d : SolverState N S). Tracks name x t a t d) (sym unchanged) (tracks_same coding h))
-        where
-          no_digit : (q : Option VariableId) → is_some q ≡ false → q ≡ None
-          no_digit None h = refl
-          no_digit (Some v) h = absurd (both_ways true h refl)
-      go false e n is are = subst (λ (w : Tracking VariableId). Tracks name x t a w c) (sym is) (tracks_more c
-          (subst (λ k. AddsTies name (tie_all t.variables t.helpers x o) (first_of o k) k b c) ends (subst (λ k. AddsTies name (tie_all t.variables t.helpers x o) k last b c) begins (subst (λ (us : List Tie). AddsTies name us first last b c) are all))) n coding e)
+-- a variable that the tracker has stays there, and brings no clause
+pub tracks_same : {N S : Type 0} (name : N) (x : VariableId) (t : Tracking VariableId) (a : SolverState N S) → IsCoding a → IsTied name t a → among same_variable t x ≡ true → Tracks name x t a t a
+tracks_same name x t a coding tied has = record {
+  coding = coding;
+  grows = grows_same a;
+  trail = trail_same a;
+  tied = tied;
+  tracked = (let (y, there, same) = any_contained (same_variable x) t.variables has in subst (Contains t.variables) (sym (variable_one x y same)) there);
+  prefix = prefix_same t.variables;
+  only = λ w i. inl i;
+  digits = λ n low below. absurd (omega arith);
+  same = λ i. refl;
+}

@@ -184,6 +184,10 @@ pub record IsTie {N S : Type 0} (name : N) (atoms : List (ProofAtom N S)) (place
   pub is_bit : Represents atoms tie.1 (Bit name bit)
   pub value : tie.2 ≡ digit place bit
 
+-- each is a tie, of the places from the first on up to the last
+abbrev pub AreTies : {N S : Type 0} → N → List (ProofAtom N S) → ℕ → ℕ → List (VariableId × VariableId × Bool) → Type 0
+AreTies name atoms first last ties = (i : ℕ) (tie : VariableId × VariableId × Bool) → slice_get ties i ≡ Some tie → IsTie name atoms (place_from first last i) tie
+
 -- the clause of this number encodes the tie
 pub record IsTieClause {N S : Type 0} (name : N) (place : ℕ) (tie : VariableId × VariableId × Bool) (c : SolverState N S) (n : ℕ) : Type 0 where
   pub is : IsTie name c.atoms.keys place tie

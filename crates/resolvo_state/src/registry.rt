@@ -6,19 +6,20 @@
 //! solvables may be true side by side.
 ghost use Rattle.std.proofs.lemmas.Bool.{and_parts, eqb-true};
 ghost use Rattle.std.specs.Bool.{Decides};
-ghost use Rattle.std.specs.Prelude.{◌≡◌, ℕ, ◌≤◌, ◌+◌, Bool, None, Some, min, length, slice_get, is_some, IfOk, OnOk, IsErrOf, IsOkUnless, Contains};
+ghost use Rattle.std.specs.Prelude.{◌≡◌, ◌<◌, ◌≤◌, Bool, false, None, map, length, is_some, IfOk, OnOk, IsErrOf, IsOkUnless, Contains};
 ghost use Rattle.resolvo_pool_core.specs.declared.want.Want.TheVariants.{Memory, Ids};
 ghost use Rattle.resolvo_pool_core.specs.declared.id.VariableId.{VariableId};
-ghost use Rattle.resolvo_store_core.specs.AtMostOne.{needs_helper};
+ghost use Rattle.resolvo_store_core.specs.AtMostOne.{needs_helper, ties, tie_all};
 ghost use Rattle.resolvo_state.specs.declared.atom.ProofAtom.TheVariants.{Solvable, Bit};
 ghost use Rattle.resolvo_pool_core.specs.Indexes.{no_index};
 ghost use Rattle.resolvo_state.specs.AtomLaws.{one_member};
 ghost use Rattle.resolvo_state.specs.Atoms.{Represents};
 ghost use Rattle.resolvo_state.specs.SolverState.{IsCoding, LacksNumber};
 ghost use Rattle.resolvo_state.specs.Keys.{AreOnce};
-ghost use Rattle.resolvo_state.specs.Registered.{same_variable, IsNothing, AreTied, IsInTracker, IsTracked, IsQueued, IsRegistered, member, IsMany, MarksMany, Registers, Places, PlacesName, IsTied, Tracks, GivesDigit, IsTie, first_of, place_from, AddsTie, AddsTies};
+ghost use Rattle.resolvo_state.specs.Registered.{same_variable, IsNothing, AreTied, IsInTracker, IsTracked, IsQueued, IsRegistered, member, IsMany, MarksMany, Registers, Places, PlacesName, IsTied, Tracks, GivesDigit, IsTie, AreTies, first_of, AddsTie, AddsTies};
 
 use crate::atom::ProofAtom;
+use crate::clause_kind::ClauseKind;
 use crate::keys::include;
 use crate::members::Members;
 use crate::solver_state::SolverState;
@@ -62,8 +63,6 @@ pub struct Registry<N: Copy + Exact + Hash> {
     tied: usize,
     /// The packages that are marked `many`: their solvables have no digits.
     many: IndexSet<N>,
-    /// The ties of the solvable that was placed last.
-    ties: Vec<Tie>,
 }
 
 // split for the prover: one drop
@@ -75,7 +74,6 @@ impl<N: Copy + Exact + Hash> Drop for Registry<N> {
             members: _,
             tied: _,
             many: _,
-            ties: _,
         } = self;
     }
 }
@@ -95,7 +93,6 @@ impl<N: Copy + Exact + Hash + Debug> Registry<N> {
             members: Members::new(alloc),
             tied: 0,
             many: IndexSet::new(alloc),
-            ties: Vec::new(alloc),
         }
     }
 
@@ -169,13 +166,7 @@ impl<N: Copy + Exact + Hash + Debug> Registry<N> {
         let alloc = *self.trackers.allocator();
         let variable = coding.variable(ProofAtom::Solvable(solvable))?;
         let place = self.place_of(alloc, name)?;
-        track(
-            &mut self.trackers[place],
-            &mut self.ties,
-            coding,
-            name,
-            variable,
-        )?;
+        track(&mut self.trackers[place], coding, name, variable)?;
         Ok(())
     }
 
@@ -208,11 +199,10 @@ impl<N: Copy + Exact + Hash + Debug> Registry<N> {
     }
 }
 
-/// Tracks the variable of a solvable, unless it is tracked, and adds the clauses that tie it to the
-/// digits of its package. The list of ties is used anew.
+/// Tracks the variable of a solvable, unless it is tracked. Adds the clauses that tie it to the
+/// digits of its package, and those that tie earlier ones to a new digit.
 fn track<N: Copy + Exact + Hash + Debug, S: Copy + Exact + Hash + Debug>(
     tracker: &mut AtMostOnceTracker<VariableId>,
-    ties: &mut Vec<Tie>,
     coding: &mut SolverState<N, S>,
     name: N,
     variable: VariableId,
@@ -224,24 +214,13 @@ fn track<N: Copy + Exact + Hash + Debug, S: Copy + Exact + Hash + Debug>(
         (Tracks name variable tracker.old coding.old tracker.new coding.new) }
     ensures ids { IsErrOf result Ids → LacksNumber coding.new }
 {
-    let digit = next_digit(tracker, coding, name, variable)?;
-    let last = tracker.variables().len() as u32;
-    let first = first_place(digit, last);
-    ties.clear();
-    tracker.add(variable, digit, ties)?;
-    add_ties(coding, name, ties.as_slice(), first, last)?;
-    Ok(())
-}
-
-/// The place of the first tie: 0 with a new digit, else that of the new variable, the number of
-/// those before it.
-fn first_place(digit: Option<VariableId>, count: u32) -> u32
-    ensures { result ≡ first_of digit count }
-{
-    match digit {
-        None => count,
-        Some(_) => 0,
+    if tracker.contains(variable) {
+        return Ok(());
     }
+    let digit = next_digit(tracker, coding, name, variable)?;
+    add_ties(coding, name, tracker, variable, digit)?;
+    tracker.track(variable, digit)?;
+    Ok(())
 }
 
 /// The variable of the new digit that a variable needs, if it needs one.
@@ -268,36 +247,87 @@ fn next_digit<N: Copy + Exact + Hash + Debug, S: Copy + Exact + Hash + Debug>(
     Ok(Some(digit))
 }
 
-/// Adds the clause of each tie of a package's solvables to its digits. The places of the ties rise
-/// by one from `first` up to `last`, the place of all that are left.
+/// Adds the clauses that tie a new variable to the digits of its package. Those that tie the earlier
+/// ones to a new digit come first.
 fn add_ties<N: Copy + Exact + Hash + Debug, S: Copy + Exact + Hash + Debug>(
     coding: &mut SolverState<N, S>,
     name: N,
-    ties: &[Tie],
-    first: u32,
-    last: u32,
+    tracker: &AtMostOnceTracker<VariableId>,
+    variable: VariableId,
+    digit: Option<VariableId>,
 ) -> R<()>
     requires coding { IsCoding coding.old }
-    requires places { first ≤ last }
-    requires ties { (i : ℕ) (tie : VariableId × VariableId × Bool)
-        → slice_get ties.now i ≡ Some tie
-        → IsTie name coding.old.atoms.keys (place_from first last i) tie }
-    ensures encoded { OnOk result (AddsTies name ties.now first last coding.old coding.new) }
+    requires few { length tracker.now.variables < 4294967296 }
+    requires ties { AreTies name coding.old.atoms.keys
+        (first_of digit (length tracker.now.variables)) (length tracker.now.variables)
+        (tie_all tracker.now.variables tracker.now.helpers variable digit) }
+    ensures encoded { OnOk result (AddsTies name
+        (tie_all tracker.now.variables tracker.now.helpers variable digit)
+        (first_of digit (length tracker.now.variables)) (length tracker.now.variables)
+        coding.old coding.new) }
     ensures ids { IsErrOf result Ids → LacksNumber coding.new }
 {
-    let mut place = first;
-    for tie in ties {
-        add_tie(coding, name, *tie, place)?;
-        place = next_place(place, last);
+    let variables = tracker.variables();
+    let helpers = tracker.helpers();
+    let place = variables.len() as u32;
+    match digit {
+        None => {
+            tie_one(coding, name, variable, place, helpers)?;
+            Ok(())
+        }
+        Some(digit) => {
+            tie_earlier(coding, name, variables, digit)?;
+            tie_one(coding, name, variable, place, helpers)?;
+            add_new_tie(coding, name, (variable, digit, true), place)?;
+            Ok(())
+        }
+    }
+}
+
+/// Ties the earlier variables to a new digit, which is 0 at each of their places.
+fn tie_earlier<N: Copy + Exact + Hash + Debug, S: Copy + Exact + Hash + Debug>(
+    coding: &mut SolverState<N, S>,
+    name: N,
+    variables: &[VariableId],
+    digit: VariableId,
+) -> R<()>
+    requires coding { IsCoding coding.old }
+    requires few { length variables.now < 4294967296 }
+    requires ties { AreTies name coding.old.atoms.keys 0 (length variables.now)
+        (map (λ x. (x, digit, false)) variables.now) }
+    ensures encoded { OnOk result (AddsTies name (map (λ x. (x, digit, false)) variables.now)
+        0 (length variables.now) coding.old coding.new) }
+    ensures ids { IsErrOf result Ids → LacksNumber coding.new }
+{
+    let mut place = 0;
+    for variable in variables {
+        add_new_tie(coding, name, (*variable, digit, false), place)?;
+        place += 1;
     }
     Ok(())
 }
 
-/// The next place, up to the last one.
-fn next_place(place: u32, last: u32) -> u32
-    ensures { result ≡ min (place + 1) last }
+/// Ties a variable to digits by those of its place, from the lowest on.
+fn tie_one<N: Copy + Exact + Hash + Debug, S: Copy + Exact + Hash + Debug>(
+    coding: &mut SolverState<N, S>,
+    name: N,
+    variable: VariableId,
+    place: u32,
+    digits: &[VariableId],
+) -> R<()>
+    requires coding { IsCoding coding.old }
+    requires ties { AreTies name coding.old.atoms.keys place place
+        (ties place variable digits.now) }
+    ensures encoded { OnOk result (AddsTies name (ties place variable digits.now) place place
+        coding.old coding.new) }
+    ensures ids { IsErrOf result Ids → LacksNumber coding.new }
 {
-    if place < last { place + 1 } else { last }
+    let mut rest = place;
+    for digit in digits {
+        add_tie(coding, name, (variable, *digit, rest % 2 == 1), place)?;
+        rest /= 2;
+    }
+    Ok(())
 }
 
 /// Adds the clause that ties a solvable at a place to a digit of its package.
@@ -318,5 +348,34 @@ fn add_tie<N: Copy + Exact + Hash + Debug, S: Copy + Exact + Hash + Debug>(
         unreachable!()
     };
     coding.add_digit(name, solvable, place, bit, &literals)?;
+    Ok(())
+}
+
+/// Adds the clause that ties a solvable at a place to a new digit of its package. The one before it
+/// is of another solvable, so its kind has an entry of its own.
+fn add_new_tie<N: Copy + Exact + Hash + Debug, S: Copy + Exact + Hash + Debug>(
+    coding: &mut SolverState<N, S>,
+    name: N,
+    tie: Tie,
+    place: u32,
+) -> R<()>
+    requires coding { IsCoding coding.old }
+    requires tie { IsTie name coding.old.atoms.keys place tie }
+    ensures encoded { OnOk result (AddsTie name place tie coding.old coding.new) }
+    ensures ids { IsErrOf result Ids → LacksNumber coding.new }
+{
+    let (variable, digit, value) = tie;
+    let is_denied = !value;
+    let literals = [Literal::new(variable, true), Literal::new(digit, is_denied)];
+    let (Some(solvable), Some(bit)) = (coding.solvable(variable), coding.bit(digit)) else {
+        unreachable!()
+    };
+    let kind = ClauseKind::ForbidMultipleInstances {
+        name,
+        solvable,
+        place,
+        bit,
+    };
+    coding.add_clause(kind, &literals)?;
     Ok(())
 }
