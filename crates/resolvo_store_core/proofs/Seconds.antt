@@ -33,20 +33,7 @@ pub all_one : (first : Signed) (xs : List Signed) → All (λ m. same_literal m 
 all_one first xs h l m a b =
     same_literal_true l first (All-contains (λ x. same_literal x first ≡ true) xs l h a) ∙ sym (same_literal_true m first (All-contains (λ x. same_literal x first ≡ true) xs m h b))
 
-pub short_one : (xs : List Signed) → length xs < 2 → CanWatch xs None
-short_one xs h l m a b =
-    let i : a.0 ≡ 0 = let x = a.1 in omega arith in
-    let j : b.0 ≡ 0 = let x = b.1 in omega arith in
-    go xs h (subst (λ (n : ℕ). get_or xs n l ≡ l) i a.2) (subst (λ (n : ℕ). get_or xs n m ≡ m) j b.2) (let x = a.1 in let t : 0 < length xs = omega arith in t)
-  where
-    go : (ys : List Signed) → length ys < 2 → get_or ys 0 l ≡ l → get_or ys 0 m ≡ m → 0 < length ys → l ≡ m
-    go [] k p q t = absurd (omega arith)
-    go (y ∷ ys) k p q t = sym p ∙ q
-
 pub get_at : (xs : List Signed) (i : ℕ) (x : Signed) → i < length xs → x ≡ get_or xs i x → slice_get xs i ≡ Some x
 get_at [] i x h e = absurd (omega arith)
 get_at (y ∷ xs) zero x h e = ap (λ (z : Signed). Some z) (sym e)
 get_at (y ∷ xs) (suc i) x h e = get_at xs i x (omega arith) e
-
-pub ends_watch : (xs : List Signed) (f l : Signed) → AreEnds xs → 2 ≤ length xs → f ≡ get_or xs 0 f → l ≡ get_or xs (length xs - 1) l → CanWatch xs (Some (record { first = f; second = l }))
-ends_watch xs f l ends long a b = ((0, omega arith, sym a), (length xs - 1, omega arith, sym b), ends f l long (get_at xs 0 f (omega arith) a) (get_at xs (length xs - 1) l (omega arith) b))

@@ -24,10 +24,6 @@ last_level_read (d ∷ []) (suc i) e h r = absurd (omega arith)
 last_level_read (d ∷ c ∷ es) zero e h r = absurd (omega arith)
 last_level_read (d ∷ c ∷ es) (suc i) e h r = last_level_read (c ∷ es) i e (omega arith) r
 
-pub last_level_none : (es : List Entry) → 0 < last_level es → 0 < length es
-last_level_none [] h = absurd (omega arith)
-last_level_none (e ∷ es) h = omega arith
-
 -- an appended entry assigns its own variable alone, where that has no value
 pub assigned_end_same : (es : List Entry) (e : Entry) → assigned es e.decision.variable.0 ≡ None → assigned (es ++ e ∷ []) e.decision.variable.0 ≡ Some (assignment_of e)
 assigned_end_same [] e h = ap (λ b. cond b (Some (assignment_of e)) None) (eq-eqb e.decision.variable.0 e.decision.variable.0 refl)
@@ -147,9 +143,6 @@ takes_one_more level a b c d took pops above =
       qhead = omega arith;
       floor = omega arith;
     }
-
-pub popped_shorter : (b c : Tracked) (d : Decision) → PopsLast b c d → length c.trail + 1 ≡ length b.trail
-popped_shorter b c d pops = sym (ap length pops.trail ∙ length-append c.trail (record { decision = d; level = pops.level } ∷ []))
 
 -- ---- what was seen of the trail
 

@@ -54,9 +54,6 @@ moved_is c from place to v u once moved m = go (cases_literal from m) (cases_lit
     go (inr f) (inl t) = subst (λ (n : Signed). same_literal from n ≡ false → u n ≡ moved_view from c (Some to) v n) t (λ g. rw g (rw (same_literal-self to) moved.put)) f
     go (inr f) (inr t) = rw f (rw t (moved.others m f t))
 
-pub walking_starts : (from : Signed) (moves : List (Option Signed)) (pairs : List (Option WatchedLiterals)) (view : Signed → List ClauseId) → IsWatched pairs view → IsWalking from [] moves pairs view 0 moves pairs view
-walking_starts from moves pairs view fit = record { fit = fit; split = refl; left = refl; lists = λ l. refl }
-
 -- the clause at the place was met and stays
 pub walking_keeps : (from : Signed) (met more : List ClauseId) (moves : List (Option Signed)) (pairs : List (Option WatchedLiterals)) (view : Signed → List ClauseId) (place : ℕ) (rest : List (Option Signed)) (now : List (Option WatchedLiterals)) (v : Signed → List ClauseId) (c : ClauseId)
     → IsWalking from met moves pairs view place rest now v → slice_get (v from) place ≡ Some c → more ≡ met ++ c ∷ [] → None ≡ new_watch (pair_at now c.0) (first_target rest) → IsWalking from more moves pairs view (place + 1) (drop 1 rest) now v
@@ -116,10 +113,6 @@ pub moved_all : (from : Signed) (met : List ClauseId) (moves : List (Option Sign
 moved_all from met moves pairs view place rest now v walk end =
     sym (ap (λ (xs : List ClauseId). pairs_after from pairs xs moves) (met_all from met moves pairs view place rest now v walk end) ∙ walk.left ∙ ap (λ (xs : List ClauseId). pairs_after from now xs rest) (nothing_left (v from) place end))
 
--- the watches fit lists that are the same
-pub fit_same : (pairs : List (Option WatchedLiterals)) (a b : Signed → List ClauseId) → IsWatched pairs a → SameLists a b → IsWatched pairs b
-fit_same pairs a b fit same = record { once = λ l c. ap (count c) (same l) ∙ fit.once l c; differ = fit.differ }
-
 -- a literal that is to be watched isn't yet
 pub new_watch_free : (p : Option WatchedLiterals) (o : Option Signed) (to : Signed) → Some to ≡ new_watch p o → watches p to ≡ false
 new_watch_free p None to e = cc
@@ -132,13 +125,6 @@ new_watch_free p (Some t) to e = go (watches p t) refl e
 pub lists_all : (from : Signed) (met : List ClauseId) (moves : List (Option Signed)) (pairs : List (Option WatchedLiterals)) (view : Signed → List ClauseId) (place : ℕ) (rest : List (Option Signed)) (now : List (Option WatchedLiterals)) (v : Signed → List ClauseId) → IsWalking from met moves pairs view place rest now v → slice_get (v from) place ≡ None → SameLists (lists_after from pairs met moves view) v
 lists_all from met moves pairs view place rest now v walk end l =
     sym (ap (λ (xs : List ClauseId). lists_after from pairs xs moves view l) (met_all from met moves pairs view place rest now v walk end) ∙ walk.lists l ∙ ap (λ (xs : List ClauseId). lists_after from now xs rest v l) (nothing_left (v from) place end))
-
--- the visited clauses are fewer than the list, where a clause is left
-pub met_fewer : (from : Signed) (met : List ClauseId) (moves : List (Option Signed)) (pairs : List (Option WatchedLiterals)) (view : Signed → List ClauseId) (place : ℕ) (rest : List (Option Signed)) (now : List (Option WatchedLiterals)) (v : Signed → List ClauseId) (c : ClauseId) → IsWalking from met moves pairs view place rest now v → slice_get (v from) place ≡ Some c → length met < length (view from)
-met_fewer from met moves pairs view place rest now v c walk at =
-    let whole : length (view from) ≡ length (met ++ c ∷ drop (suc place) (v from)) = ap length (walk.split ∙ ap (λ (xs : List ClauseId). met ++ xs) (drop_here (v from) place c at)) in
-    let sum : length (met ++ c ∷ drop (suc place) (v from)) ≡ length met + length (c ∷ drop (suc place) (v from)) = length-append met (c ∷ drop (suc place) (v from)) in
-    omega arith
 
 -- a literal that is to be watched is the one of the step
 pub new_watch_is : (p : Option WatchedLiterals) (o : Option Signed) (to : Signed) → Some to ≡ new_watch p o → Some to ≡ o
