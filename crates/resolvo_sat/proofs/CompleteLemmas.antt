@@ -1,6 +1,6 @@
 -- Propagation that went to the trail's end is complete.
-use Rattle.std.proofs.Common.{◌≡◌, ℕ, zero, suc, ◌+◌, ◌-◌, ◌<◌, ◌≤◌, ◌⊎◌, inl, inr, true, false, not, List, [], ◌∷◌, ◌++◌, take, drop, reverse, length, get_or, Vec, Global, Option, Some, None, refl, sym, ◌∙◌, ap, subst, arith}
-use Rattle.std.proofs.lemmas.Bool.{both_ways, cases_Bool}
+use Rattle.std.proofs.Common.{◌≡◌, ℕ, zero, suc, ◌+◌, ◌-◌, ◌<◌, ◌≤◌, ◌⊎◌, inl, inr, true, false, List, [], ◌∷◌, ◌++◌, take, drop, reverse, length, get_or, Vec, Global, Option, Some, None, refl, sym, ◌∙◌, ap, subst, arith}
+use Rattle.std.proofs.lemmas.Bool.{cases_Bool}
 use Rattle.std.proofs.lemmas.List.{take_more, take_all, take_rest, length-append, length-reverse}
 use Rattle.resolvo_pool_core.specs.declared.id.ClauseId.{ClauseId}
 use Rattle.resolvo_store_core.specs.Signed.{Signed, negation, same_literal, has}
@@ -8,25 +8,23 @@ use Rattle.resolvo_store_core.specs.Clauses.{yes, root}
 use Rattle.resolvo_store_core.specs.Watches.{pair_at}
 use Rattle.resolvo_store_core.specs.declared.watched_literals.WatchedLiterals.{WatchedLiterals}
 use Rattle.resolvo_store_core.specs.declared.decision.Entry.{Entry}
-use Rattle.resolvo_store_core.proofs.Watched.{not_same}
 use Rattle.resolvo_sat.specs.declared.state.SatState.{SatState}
 use Rattle.resolvo_sat.specs.Clauses.{SatClause}
 use Rattle.resolvo_sat.specs.declared.state.VariableKind.{VariableKind}
 use Rattle.resolvo_sat.specs.declared.watch_lists.WatchLists.{WatchLists}
 use Rattle.resolvo_sat.specs.declared.watch_lists.UnitClause.{UnitClause}
 use Rattle.resolvo_sat.specs.declared.watch_lists.UnitsDone.{UnitsDone}
-use Rattle.resolvo_sat.specs.Known.{IsFalseUnder, Forces, clause_at}
-use Rattle.resolvo_sat.specs.Entries.{literal_of, made_true, before}
+use Rattle.resolvo_sat.specs.Known.{clause_at}
+use Rattle.resolvo_sat.specs.Entries.{made_true, before}
 use Rattle.resolvo_sat.specs.State.{count_of, history, clauses_of, IsState}
-use Rattle.resolvo_sat.specs.Propagation.{IsReady, IsFit, IsUnit, IsPending, SameWatching, FellAt, AreCovered, AreUnits, IsOnly, HasUnit, AllTrue, IsDone, AreDone, AreWithin, Guards, GuardsTo, IsWalkedTo, Extends, Walked, Running, IsFalsified, Conflicts, IsQuiet, IsComplete, IsUnitAssigned, IsUnitsEnd, AssignsUnits}
-use Rattle.resolvo_sat.specs.Attach.{Attaches}
+use Rattle.resolvo_sat.specs.Propagation.{IsReady, IsFit, IsUnit, SameWatching, FellAt, AreCovered, AreUnits, IsOnly, HasUnit, AllTrue, IsDone, AreDone, AreWithin, Guards, GuardsTo, IsWalkedTo, Extends, Walked, Running, IsFalsified, Conflicts, IsQuiet, IsComplete, IsUnitAssigned, IsUnitsEnd, AssignsUnits}
+use Rattle.resolvo_sat.specs.Pending.{Proceeds, Settles}
 use Rattle.resolvo_sat.specs.UnitsDone.{NotesDone}
-use Rattle.resolvo_sat.proofs.Literals.{negation-negation}
-use Rattle.resolvo_sat.proofs.Trails.{consistent, before_all, length_le, root_known}
+use Rattle.resolvo_sat.proofs.Trails.{before_all, length_le, root_known}
 use Rattle.resolvo_sat.proofs.Clauses.{length-lists}
 use Rattle.resolvo_sat.proofs.ExtendLemmas.{extends_more, still_true, same_clauses, before_kept}
 use Rattle.resolvo_sat.proofs.Guards.{guards_known}
-use Rattle.resolvo_sat.proofs.DoneLemmas.{within_same, done_further, done_noted}
+use Rattle.resolvo_sat.proofs.DoneLemmas.{within_same, notes_same, done_further, done_noted}
 use Rattle.resolvo_sat.proofs.Readiness.{fits_same, ready_extends, qhead_extends, same_watching, watching_more}
 
 pub all_true_more : (s t : SatState) (xs : List UnitClause) → Extends s t → AllTrue (made_true (history s)) xs → AllTrue (made_true (history t)) xs
@@ -77,20 +75,27 @@ entries_bounded s state =
     let b : length (history s) ≡ length s.tracker.trail = length-reverse s.tracker.trail in
     omega arith
 
--- before the next entry is taken: the singles were gone over, and no clause waits
-pub running_starts : (o r s t : SatState) (v w : WatchLists) → AssignsUnits v.assertions.items o r → AssignsUnits v.learnt.items r s → Attaches s t v w → ((n : ℕ) → IsPending n w → ⊥) → AreWithin o.qhead v → Running o t v w
-running_starts o r s t v w rules learnt attaches attached within = record {
-  watching = attaches.watching;
-  attached = attached;
-  fits = attaches.ready.fits;
-  extends = extends_more o s t (extends_more o r s rules.extends learnt.extends) attaches.extends;
-  walked = attaches.ready.walked;
-  assertions = all_true_more s t v.assertions.items attaches.extends (all_true_more r s v.assertions.items learnt.extends rules.set);
-  learnt = all_true_more s t v.learnt.items attaches.extends learnt.set;
-  in_range = attaches.ready.qhead;
-  done = attaches.ready.done;
-  within = within_same o.qhead t.qhead v w attaches.watching.units_done (let a : t.qhead ≡ s.qhead = attaches.qhead in let b : s.qhead ≡ r.qhead = learnt.qhead in let d : r.qhead ≡ o.qhead = rules.qhead in omega arith) within;
-}
+-- before the next entry is taken: the singles were gone over, and no clause is pending
+pub running_starts : (o r s t u : SatState) (v w x : WatchLists) → AssignsUnits v.assertions.items o r → AssignsUnits v.learnt.items r s → Proceeds s t v w → Settles t u w x → Running o u v x
+running_starts o r s t u v w x rules learnt proceeds settles =
+    let e : Extends s u = extends_more s t u proceeds.extends settles.extends in
+    record {
+      watching = watching_more v w x proceeds.watching settles.watching;
+      settled = settles.settled;
+      fits = settles.ready.fits;
+      extends = extends_more o s u (extends_more o r s rules.extends learnt.extends) e;
+      walked = settles.ready.walked;
+      assertions = all_true_more s u v.assertions.items e (all_true_more r s v.assertions.items learnt.extends rules.set);
+      learnt = all_true_more s u v.learnt.items e learnt.set;
+      in_range = settles.ready.qhead;
+      done = settles.ready.done;
+      within = settles.within;
+    }
+
+-- what was noted is within what was propagated, before the pending clauses are tested
+pub settles_within : (o r s t : SatState) (v w : WatchLists) (xs ys : List UnitClause) → AssignsUnits xs o r → AssignsUnits ys r s → Proceeds s t v w → AreWithin o.qhead v → AreWithin t.qhead w
+settles_within o r s t v w xs ys rules learnt proceeds within =
+    within_same o.qhead t.qhead v w proceeds.watching.notes (let a : t.qhead ≡ s.qhead = proceeds.qhead in let b : s.qhead ≡ r.qhead = learnt.qhead in let d : r.qhead ≡ o.qhead = rules.qhead in omega arith) within
 
 -- after the singles were gone over the watches are ready still
 pub units_ready : (o r s : SatState) (w : WatchLists) (xs ys : List UnitClause) → IsReady o w → AssignsUnits xs o r → AssignsUnits ys r s → IsReady s w
@@ -107,15 +112,15 @@ running_goes_on o s u t v w x l run fell walked passed =
     let e : Extends s (record u { qhead = u.qhead + 1 }) = qhead_extends s u (u.qhead + 1) walked.extends in
     record {
       watching = watching_more v w x run.watching walked.watching;
-      attached = λ n stays_pending. run.attached n (walked.watching.was_pending n stays_pending);
+      settled = λ n h. run.settled n (walked.watching.was_pending n h);
       fits = fits_same u (record u { qhead = u.qhead + 1 }) x walked.fits refl;
       extends = extends_more o s (record u { qhead = u.qhead + 1 }) run.extends e;
       walked = subst (λ (k : ℕ). IsWalkedTo k u x) here walked.walked;
       assertions = all_true_more s u v.assertions.items walked.extends run.assertions;
       learnt = all_true_more s u v.learnt.items walked.extends run.learnt;
       in_range = omega arith;
-      done = done_further s (record u { qhead = u.qhead + 1 }) w x walked.watching.units_done walked.watching.assertions walked.watching.learnt run.within (λ k le. before_kept s u k walked.extends (omega arith)) run.done;
-      within = within_same s.qhead (u.qhead + 1) w x walked.watching.units_done (omega arith) run.within;
+      done = done_further s (record u { qhead = u.qhead + 1 }) w x walked.watching.notes walked.watching.assertions walked.watching.learnt run.within (λ k le. before_kept s u k walked.extends (omega arith)) run.done;
+      within = within_same s.qhead (u.qhead + 1) w x walked.watching.notes (omega arith) run.within;
     })
 
 -- a step of the walk leaves fewer entries
@@ -173,18 +178,17 @@ running_quiet o s v w run covers h n below = go (pair_at w.watched.items n) refl
         let all : s.qhead ≡ length s.tracker.trail = omega arith in
         subst (λ (k : ℕ). IsWalkedTo k s w) all run.walked
 
-    covered : pair_at w.watched.items n ≡ None → (n ≡ 0) ⊎ (IsUnit n v ⊎ IsPending n v) → IsQuiet known (clause_at (clauses_of s) n)
+    covered : pair_at w.watched.items n ≡ None → (n ≡ 0) ⊎ IsUnit n v → IsQuiet known (clause_at (clauses_of s) n)
     covered none (inl first) =
         let here : clause_at (clauses_of s) n ≡ clause_at (clauses_of o) 0 = ap (λ (cs : List (List Signed)). clause_at cs n) (same_clauses o s run.extends) ∙ ap (clause_at (clauses_of o)) first in
         inl (yes root, subst (λ (c : List Signed). has c (yes root) ≡ true) (sym here) covers.first, root_known (history s) run.extends.state.rooted)
-    covered none (inr (inl (x, number, inl present))) = quiet_unit o s v v.assertions.items n x run.extends covers.assertions run.assertions number present
-    covered none (inr (inl (x, number, inr present))) = quiet_unit o s v v.learnt.items n x run.extends covers.learnt run.learnt number present
-    covered none (inr (inr stays_pending)) = absurd (run.attached n (run.watching.stays_pending n stays_pending none))
+    covered none (inr (x, number, inl present)) = quiet_unit o s v v.assertions.items n x run.extends covers.assertions run.assertions number present
+    covered none (inr (x, number, inr present)) = quiet_unit o s v v.learnt.items n x run.extends covers.learnt run.learnt number present
 
     go : (p : Option WatchedLiterals) → pair_at w.watched.items n ≡ p → IsQuiet known (clause_at (clauses_of s) n)
     go (Some p) is =
         quiet_pair known (clause_at (clauses_of s) n) p (run.fits.own n p is).first (run.fits.own n p is).second (run.fits.fit.differ n p is)
-        (guards_known s.guard_level (history s) (history s) p (subst (λ (ds : List Entry). GuardsTo s.guard_level ds (history s) p) (before_all s.tracker.trail) (walked n p is)))
+        (guards_known s.guard_level (history s) (history s) p (subst (λ (ds : List Entry). GuardsTo s.guard_level ds (history s) p) (before_all s.tracker.trail) (walked n p is (run.settled n))))
     go None is = covered is (covers.covered n (subst (λ (cs : List SatClause). n < length cs) run.extends.same.clauses below) (run.watching.pairs n is))
 
 running_ends : (o s : SatState) (v w : WatchLists) → Running o s v w → AreCovered o v → length s.tracker.trail ≤ s.qhead → IsComplete o s v w
@@ -195,13 +199,13 @@ running_ends o s v w run covers end =
       ready = record { state = run.extends.state; fits = run.fits; qhead = run.in_range; walked = run.walked; done = run.done };
       extends = run.extends;
       qhead = omega arith;
-      attached = run.attached;
+      settled = run.settled;
       quiet = running_quiet o s v w run covers end;
     }
 
 -- notes alone changed
 fits_noted : (s : SatState) (w : WatchLists) (notes : Vec UnitsDone Global) → IsFit s w → IsFit s (record w { units_done = notes })
-fits_noted s w notes fits = record { fit = fits.fit; each = fits.each; own = fits.own; unwatched = fits.unwatched; two = fits.two; once = fits.once }
+fits_noted s w notes fits = record { fit = fits.fit; each = fits.each; own = fits.own }
 
 pub ready_noted : (s : SatState) (v w : WatchLists) → w ≡ record v { units_done = w.units_done } → AreDone s w → IsReady s v → IsReady s w
 ready_noted s v w rest done ready =
@@ -223,11 +227,11 @@ complete_noted o s v u w x rest covers run end notes =
     let same : record v { units_done = x.units_done } ≡ record u { units_done = x.units_done } = sym (ap (λ (y : WatchLists). record y { units_done = x.units_done }) rest) in
     subst (λ (y : WatchLists). IsComplete o s y x) (sym same)
     (subst (λ (y : WatchLists). IsComplete o s (record u { units_done = x.units_done }) y) (sym notes.rest) (record {
-      watching = record { assertions = is.watching.assertions; learnt = is.watching.learnt; units_done = refl; pairs = is.watching.pairs; was_pending = is.watching.was_pending; stays_pending = is.watching.stays_pending };
+      watching = record { assertions = is.watching.assertions; learnt = is.watching.learnt; notes = λ i d h. h; pairs = is.watching.pairs; was_pending = is.watching.was_pending };
       ready = ready_noted s w (record w { units_done = x.units_done }) refl (subst (λ (y : WatchLists). AreDone s y) notes.rest done) is.ready;
       extends = is.extends;
       qhead = is.qhead;
-      attached = is.attached;
+      settled = is.settled;
       quiet = is.quiet;
     }))
   where
@@ -247,7 +251,7 @@ complete_noted o s v u w x rest covers run end notes =
 
     done : AreDone s x
     done = elim notes.noted [
-      | inl e ↦ done_further s s w x e (ap (λ (y : WatchLists). y.assertions) notes.rest) (ap (λ (y : WatchLists). y.learnt) notes.rest) run.within (λ k le. refl) run.done
+      | inl e ↦ done_further s s w x (notes_same w x e) (ap (λ (y : WatchLists). y.assertions) notes.rest) (ap (λ (y : WatchLists). y.learnt) notes.rest) run.within (λ k le. refl) run.done
       | inr e ↦ done_noted s w x (record { entries = s.qhead; assertions = length w.assertions.items; learnt = length w.learnt.items }) run.done run.within noted (ap (λ (y : WatchLists). y.assertions) notes.rest) (ap (λ (y : WatchLists). y.learnt) notes.rest) e
     ]
 

@@ -9,7 +9,7 @@ use Rattle.resolvo_sat.specs.declared.watch_lists.UnitClause.{UnitClause}
 use Rattle.resolvo_sat.specs.declared.watch_lists.UnitsDone.{UnitsDone}
 use Rattle.resolvo_sat.specs.Entries.{made_true, before}
 use Rattle.resolvo_sat.specs.State.{history}
-use Rattle.resolvo_sat.specs.Propagation.{AllTrue, IsDone, AreDone, AreWithin, HasDone}
+use Rattle.resolvo_sat.specs.Propagation.{AllTrue, IsDone, AreDone, AreWithin, HasDone, KeepsNotes}
 use Rattle.resolvo_sat.specs.AddClause.{with_last}
 use Rattle.resolvo_sat.specs.UnitsDone.{DropsDone, IsLastDone}
 use Rattle.resolvo_sat.proofs.ExtendLemmas.{true_by_now}
@@ -29,11 +29,11 @@ first_more true x xs n low = (
 first_more false x xs n low = (low, refl)
 
 -- the notes hold where the first unit clauses are the same, and the entries of those that are to hold
-pub done_kept : (s t : SatState) (v w : WatchLists) → w.units_done ≡ v.units_done → FirstSame v.assertions.items w.assertions.items → FirstSame v.learnt.items w.learnt.items
+pub done_kept : (s t : SatState) (v w : WatchLists) → KeepsNotes v w → FirstSame v.assertions.items w.assertions.items → FirstSame v.learnt.items w.learnt.items
     → ((d : UnitsDone) → ((k : ℕ) → AreWithin k v → d.entries ≤ k) → d.entries ≤ t.qhead → (d.entries ≤ s.qhead) × (before t.tracker.trail d.entries ≡ before s.tracker.trail d.entries)) → AreDone s v → AreDone t w
-done_kept s t v w units rules learnt low done = record {
+done_kept s t v w notes rules learnt low done = record {
   each = λ i d h.
-      let was : slice_get v.units_done.items i ≡ Some d = there i d h in
+      let was : slice_get v.units_done.items i ≡ Some d = notes i d h in
       let old : IsDone s.tracker.trail s.qhead v.assertions.items v.learnt.items d = done.each i d was in
       record {
         assertions_within = (rules d.assertions old.assertions_within).0;
@@ -47,27 +47,28 @@ done_kept s t v w units rules learnt low done = record {
             subst (λ (xs : List UnitClause). AllTrue (made_true (before t.tracker.trail d.entries)) xs) (sym (learnt d.learnt old.learnt_within).1)
             (subst (λ (es : List Entry). AllTrue (made_true es) (take d.learnt v.learnt.items)) (sym same) (old.learnt_true within));
       };
-  rising = λ i j c d le f g. done.rising i j c d le (there i c f) (there j d g);
+  rising = λ i j c d le f g. done.rising i j c d le (notes i c f) (notes j d g);
 }
-  where
-    there : (i : ℕ) (d : UnitsDone) → slice_get w.units_done.items i ≡ Some d → slice_get v.units_done.items i ≡ Some d
-    there i d h = subst (λ (u : Vec UnitsDone Global). slice_get u.items i ≡ Some d) units h
 
--- the unit clauses and the notes are the same
-pub done_same : (s t : SatState) (v w : WatchLists) → w.units_done ≡ v.units_done → w.assertions ≡ v.assertions → w.learnt ≡ v.learnt
+-- the notes are the same
+pub notes_same : (v w : WatchLists) → w.units_done ≡ v.units_done → KeepsNotes v w
+notes_same v w same i d h = subst (λ (u : Vec UnitsDone Global). slice_get u.items i ≡ Some d) same h
+
+-- the unit clauses are the same, and no note came
+pub done_same : (s t : SatState) (v w : WatchLists) → KeepsNotes v w → w.assertions ≡ v.assertions → w.learnt ≡ v.learnt
     → t.qhead ≤ s.qhead → ((k : ℕ) → k ≤ t.qhead → before t.tracker.trail k ≡ before s.tracker.trail k) → AreDone s v → AreDone t w
-done_same s t v w units rules learnt low same done =
-    done_kept s t v w units (first_same v.assertions w.assertions rules) (first_same v.learnt w.learnt learnt) (λ d all below. (omega arith, same d.entries below)) done
+done_same s t v w notes rules learnt low same done =
+    done_kept s t v w notes (first_same v.assertions w.assertions rules) (first_same v.learnt w.learnt learnt) (λ d all below. (omega arith, same d.entries below)) done
 
 -- the propagation head advanced past all entries of the notes
-pub done_further : (s t : SatState) (v w : WatchLists) → w.units_done ≡ v.units_done → w.assertions ≡ v.assertions → w.learnt ≡ v.learnt
+pub done_further : (s t : SatState) (v w : WatchLists) → KeepsNotes v w → w.assertions ≡ v.assertions → w.learnt ≡ v.learnt
     → AreWithin s.qhead v → ((k : ℕ) → k ≤ s.qhead → before t.tracker.trail k ≡ before s.tracker.trail k) → AreDone s v → AreDone t w
-done_further s t v w units rules learnt within same done =
-    done_kept s t v w units (first_same v.assertions w.assertions rules) (first_same v.learnt w.learnt learnt)
+done_further s t v w notes rules learnt within same done =
+    done_kept s t v w notes (first_same v.assertions w.assertions rules) (first_same v.learnt w.learnt learnt)
     (λ d all below. (let low : d.entries ≤ s.qhead = all s.qhead within in (low, same d.entries low))) done
 
-pub within_same : (k m : ℕ) (v w : WatchLists) → w.units_done ≡ v.units_done → k ≤ m → AreWithin k v → AreWithin m w
-within_same k m v w units le within i d h = let low : d.entries ≤ k = within i d (subst (λ (u : Vec UnitsDone Global). slice_get u.items i ≡ Some d) units h) in omega arith
+pub within_same : (k m : ℕ) (v w : WatchLists) → KeepsNotes v w → k ≤ m → AreWithin k v → AreWithin m w
+within_same k m v w notes le within i d h = let low : d.entries ≤ k = within i d (notes i d h) in omega arith
 
 -- notes were dropped
 pub done_dropped : (s : SatState) (v w : WatchLists) → DropsDone v w → AreDone s v → AreDone s w
@@ -105,7 +106,7 @@ last_has_done s w d done (inl (last, low)) =
     }
 last_has_done s w d done (inr (none, is)) = subst (HasDone s w) (sym is) (record { assertions_within = omega arith; learnt_within = omega arith; assertions = tt; learnt = tt })
 
-not_none : {X : Type 0} (x : X) → None ≡ Some x → ⊥
+pub not_none : {X : Type 0} (x : X) → None ≡ Some x → ⊥
 not_none x h = cc
 
 got_push : {X : Type 0} (xs : List X) (y : X) (i : ℕ) (x : X) → slice_get (xs ++ y ∷ []) i ≡ Some x → (slice_get xs i ≡ Some x) ⊎ ((i ≡ length xs) × (x ≡ y))

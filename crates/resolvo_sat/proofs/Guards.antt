@@ -13,11 +13,13 @@ use Rattle.resolvo_store_core.specs.declared.watched_literals.WatchedLiterals.{W
 use Rattle.resolvo_store_core.proofs.Trails.{assigned_end_same, assigned_end_other}
 use Rattle.resolvo_sat.specs.declared.state.SatState.{SatState}
 use Rattle.resolvo_sat.specs.Known.{IsUndecided}
-use Rattle.resolvo_sat.specs.Entries.{literal_of, made_true, IsTrail, IsTrueAt}
+use Rattle.resolvo_sat.specs.Entries.{literal_of, made_true, before, IsTrail, IsTrueAt}
 use Rattle.resolvo_sat.specs.State.{count_of, history, clauses_of, IsState}
-use Rattle.resolvo_sat.specs.Propagation.{IsGuard, Guards, GuardsTo, RecordsGuard}
-use Rattle.resolvo_sat.proofs.Trails.{same_or_negated, known_from_level, level_from_known, consistent}
+use Rattle.resolvo_sat.specs.Propagation.{IsGuard, Guards, GuardsTo}
+use Rattle.resolvo_sat.specs.Pending.{AreOpen}
+use Rattle.resolvo_sat.proofs.Trails.{same_or_negated, known_from_level, level_from_known}
 use Rattle.resolvo_sat.proofs.Values.{undecided_none}
+use Rattle.resolvo_sat.proofs.ExtendLemmas.{level_by_now}
 
 -- a guard stays one where entries are added, and where the guards' level rises
 pub guard_more : (g h k : ℕ) (all more : List Entry) (l : Signed) → g ≤ h → ((j : ℕ) → IsTrueAt all l j → IsTrueAt more l j) → IsGuard g k all l → IsGuard h k more l
@@ -27,13 +29,6 @@ pub guards_more : (g h : ℕ) (fallen all more : List Entry) (p : WatchedLiteral
 guards_more g h fallen all more p le inside x = record {
   first = λ k f. guard_more g h k all more p.second le (inside p.second) (x.first k f);
   second = λ k f. guard_more g h k all more p.first le (inside p.first) (x.second k f);
-}
-
--- of the first entries too
-pub guards_first : (g : ℕ) (fallen first all : List Entry) (p : WatchedLiterals) → ((l : Signed) (j : ℕ) → IsTrueAt first l j → IsTrueAt fallen l j) → GuardsTo g fallen all p → GuardsTo g first all p
-guards_first g fallen first all p inside x = record {
-  first = λ k f. x.first k (inside (negation p.first) k f);
-  second = λ k f. x.second k (inside (negation p.second) k f);
 }
 
 -- a guard is true
@@ -77,10 +72,9 @@ guard_recorded s g l m state known le bound k fell =
     let b : level_or (assigned s.tracker.trail l.variable.0) ≡ k = level_is s (negation l) k state fell in
     (j, omega arith, present)
 
--- the first of a pair is true, and guards the second
-pub guards_recorded : (s t : SatState) (p : WatchedLiterals) → IsState s → has (made_true (history s)) p.first ≡ true → RecordsGuard p.second p.first s t → GuardsTo t.guard_level (history t) (history t) p
-guards_recorded s t p state known recorded =
-    subst (λ (h : List Entry). GuardsTo t.guard_level h h p) (sym (ap history recorded.same)) (record {
-      first = λ k f. absurd (consistent (count_of s) (clauses_of s) (history s) p.first state.trail known (known_from_level (history s) (negation p.first) k f));
-      second = λ k f. recorded.guard k f;
-    })
+-- neither of the two is false: there is nothing to guard
+pub open_guards : (s : SatState) (g k : ℕ) (p : WatchedLiterals) → AreOpen (made_true (history s)) p → GuardsTo g (before s.tracker.trail k) (history s) p
+open_guards s g k p open_pair = record {
+  first = λ j f. absurd (both_ways _ open_pair.first (known_from_level (history s) (negation p.first) j (level_by_now s.tracker.trail k (negation p.first) j f)));
+  second = λ j f. absurd (both_ways _ open_pair.second (known_from_level (history s) (negation p.second) j (level_by_now s.tracker.trail k (negation p.second) j f)));
+}

@@ -13,7 +13,7 @@ use Rattle.resolvo_sat.specs.Entries.{made_true, top_level, IsUndone, IsOnTrail,
 use Rattle.resolvo_sat.specs.State.{count_of, history, clauses_of, lists, IsState}
 use Rattle.resolvo_sat.specs.Analysis.{IsLearnt}
 use Rattle.resolvo_sat.specs.Steps.{Sets, Undoes, KeepsChoices, forced_entry}
-use Rattle.resolvo_sat.specs.AddClause.{AddsPending, Learns}
+use Rattle.resolvo_sat.specs.AddClause.{AddsClause, Learns}
 use Rattle.resolvo_sat.proofs.Literals.{negation-negation}
 use Rattle.resolvo_sat.proofs.Trails.{kept, undone_undecided, known_from_level}
 use Rattle.resolvo_sat.proofs.Weights.{weight_jump}
@@ -44,7 +44,7 @@ learnt_forces s t x state learnt u =
       };
     }
 
-pub added_forces : (s t a : SatState) (v w : WatchLists) (x : Learnt) (c : SatClause) (id : ClauseId) → IsState s → IsLearnt s x → Undoes x.level s t → c ≡ record { literals = x.literals.items; causes = x.causes.items } → AddsPending c id t v a w
+pub added_forces : (s t a : SatState) (v w : WatchLists) (x : Learnt) (c : SatClause) (id : ClauseId) → IsState s → IsLearnt s x → Undoes x.level s t → c ≡ record { literals = x.literals.items; causes = x.causes.items } → AddsClause c id t v a w
     → Forces (made_true (history a)) (clause_at (clauses_of a) id.0) x.asserting
 added_forces s t a v w x c id state learnt u is addition =
     let forces : Forces (made_true (history t)) x.literals.items x.asserting = learnt_forces s t x state learnt u in
@@ -58,7 +58,7 @@ added_forces s t a v w x c id state learnt u is addition =
     subst (λ (h : List Entry). Forces (made_true h) (clause_at (clauses_of a) id.0) x.asserting) (sym entries)
     (subst (λ (l : List Signed). Forces (made_true (history t)) l x.asserting) (sym clause) forces)
 
-pub learns : (s t a b : SatState) (v w : WatchLists) (x : Learnt) (c : SatClause) (id : ClauseId) → 1 ≤ x.level → Undoes x.level s t → c ≡ record { literals = x.literals.items; causes = x.causes.items } → AddsPending c id t v a w → Sets id x.asserting a b → Learns x id s b w
+pub learns : (s t a b : SatState) (v w : WatchLists) (x : Learnt) (c : SatClause) (id : ClauseId) → 1 ≤ x.level → Undoes x.level s t → c ≡ record { literals = x.literals.items; causes = x.causes.items } → AddsClause c id t v a w → Sets id x.asserting a b → Learns x id s b w
 learns s t a b v w x c id one u is addition set =
     let entries : history a ≡ history t = ap (λ (k : Tracked). reverse k.trail) addition.adds.tracker in
     record {

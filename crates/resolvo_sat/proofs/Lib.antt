@@ -16,7 +16,6 @@ pub mod MetLemmas
 pub mod DoneLemmas
 pub mod Readiness
 pub mod VisitLemmas
-pub mod AttachLemmas
 pub mod StartLemmas
 pub mod FreeLemmas
 pub mod CompleteLemmas

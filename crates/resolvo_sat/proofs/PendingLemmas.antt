@@ -1,34 +1,34 @@
 -- A new clause keeps the watches right.
-use Rattle.std.proofs.Common.{◌≡◌, ℕ, zero, suc, ◌+◌, ◌<◌, ◌≤◌, ◌⊎◌, inl, inr, Bool, true, false, not, ◌==◌, ◌&&◌, List, [], ◌∷◌, ◌++◌, reverse, length, Option, None, refl, sym, ◌∙◌, ap, subst, arith, eqb, eqb-true, eq-eqb}
-use Rattle.std.specs.Prelude.{slice_index_or, Contains}
+use Rattle.std.proofs.Common.{◌≡◌, ℕ, zero, suc, ◌+◌, ◌<◌, ◌≤◌, ◌⊎◌, inl, inr, Bool, true, false, not, ◌==◌, ◌&&◌, List, [], ◌∷◌, ◌++◌, get_or, take, reverse, length, Option, Some, None, Vec, Global, refl, sym, ◌∙◌, ap, subst, arith, eqb, eqb-true, eq-eqb}
+use Rattle.std.specs.Prelude.{slice_index_or, is_none, IfSome, Contains}
 use Rattle.std.proofs.lemmas.Bool.{both_ways, cases_Bool}
-use Rattle.std.proofs.lemmas.Bool.Decides.{eqb_tells}
 use Rattle.std.proofs.lemmas.List.{length-append}
 use Rattle.resolvo_pool_core.specs.declared.id.ClauseId.{ClauseId}
-use Rattle.resolvo_store_core.specs.Signed.{Signed, has}
+use Rattle.resolvo_store_core.specs.Signed.{Signed, same_literal, has}
 use Rattle.resolvo_store_core.specs.Clauses.{yes, root}
 use Rattle.resolvo_store_core.specs.Trail.{Tracked}
 use Rattle.resolvo_store_core.specs.Watches.{watchers, pair_at, count, one_if, IsWatched}
 use Rattle.resolvo_store_core.specs.declared.watch_map.WatchMap.{WatchMap}
 use Rattle.resolvo_store_core.specs.declared.watched_literals.WatchedLiterals.{WatchedLiterals}
-use Rattle.resolvo_store_core.proofs.Watched.{pair_past, unwatched_well}
+use Rattle.resolvo_store_core.proofs.Watched.{pair_at_end, pair_before_end, started_well, unwatched_well}
 use Rattle.resolvo_store_core.proofs.ClauseLists.{count-append, one_same}
 use Rattle.resolvo_sat.specs.Clauses.{SatClause}
 use Rattle.resolvo_sat.specs.declared.state.SatState.{SatState}
 use Rattle.resolvo_sat.specs.declared.watch_lists.WatchLists.{WatchLists}
 use Rattle.resolvo_sat.specs.declared.watch_lists.UnitClause.{UnitClause}
 use Rattle.resolvo_sat.specs.Known.{clause_at}
-use Rattle.resolvo_sat.specs.Entries.{before}
+use Rattle.resolvo_sat.specs.Entries.{made_true, before}
 use Rattle.resolvo_sat.specs.State.{clauses_of, history, lists}
 use Rattle.resolvo_sat.specs.Steps.{Adds}
-use Rattle.resolvo_sat.specs.Propagation.{IsReady, IsFit, HasTwo, GuardsTo, IsUnit, IsPending, AreCovered, IsOwnPair, IsOnly, AreUnits, HasUnit}
-use Rattle.resolvo_sat.specs.AddClause.{with_last, HasAnother, Begins, AddsPending}
-use Rattle.resolvo_sat.proofs.Literals.{has-cons, has_here, has_later}
+use Rattle.resolvo_sat.specs.Propagation.{IsReady, GuardsTo, IsUnit, IsPending, AreCovered, IsOwnPair, IsOnly, AreUnits, HasUnit}
+use Rattle.resolvo_sat.specs.Pending.{AreOpen}
+use Rattle.resolvo_sat.specs.AddClause.{AreBoth, IsEither, IsBeside, IsBesideSoFar, AreFirst, BeginsIn, with_last, Begins, NotesPending, AddsClause}
+use Rattle.resolvo_sat.proofs.Literals.{has-cons, has_here, has_later, has_more}
 use Rattle.resolvo_sat.proofs.Trails.{clause_at_kept}
-use Rattle.resolvo_sat.proofs.WalkLemmas.{in_range_from}
 use Rattle.resolvo_sat.proofs.Clauses.{length-lists}
 use Rattle.resolvo_sat.proofs.StepLemmas.{lists-append, clause_at_end}
-use Rattle.resolvo_sat.proofs.DoneLemmas.{FirstSame, first_more, done_kept}
+use Rattle.resolvo_sat.proofs.Guards.{open_guards}
+use Rattle.resolvo_sat.proofs.DoneLemmas.{FirstSame, first_more, not_none, notes_same, done_kept}
 
 pub has_contained : (xs : List Signed) (l : Signed) → Contains xs l → has xs l ≡ true
 has_contained [] l (k, below, at) = absurd (omega arith)
@@ -89,95 +89,108 @@ below_other n a b below long differ = elim (cases_number n a) [ inl f ↦ absurd
 pub count_push : (n : ℕ) (xs : List ClauseId) (c : ClauseId) → count n (xs ++ c ∷ []) ≡ count n xs + one_if (eqb n c.0)
 count_push n xs c = let all : count n (xs ++ c ∷ []) ≡ count n xs + count n (c ∷ []) = count-append n xs (c ∷ []) in omega arith
 
-pending_cases : (n : ℕ) (b : Bool) (c : ClauseId) (xs : List ClauseId) → 0 < count n (with_last b c xs) → (0 < count n xs) ⊎ ((b ≡ true) × (n ≡ c.0))
-pending_cases n false c xs h = inl h
-pending_cases n true c xs h = elim (eqb_tells n c.0) [
-  | inl y ↦ inr (refl, y.1)
-  | inr y ↦
-      let all : count n (xs ++ c ∷ []) ≡ count n xs + one_if (eqb n c.0) = count_push n xs c in
-      let none : one_if (eqb n c.0) ≡ 0 = ap one_if y.0 in
-      inl (omega arith)
-]
-
-pending_still : (n : ℕ) (b : Bool) (c : ClauseId) (xs : List ClauseId) → 0 < count n xs → 0 < count n (with_last b c xs)
-pending_still n false c xs h = h
-pending_still n true c xs h = let all : count n (xs ++ c ∷ []) ≡ count n xs + one_if (eqb n c.0) = count_push n xs c in omega arith
-
 pending_last : (c : ClauseId) (xs : List ClauseId) → 0 < count c.0 (xs ++ c ∷ [])
 pending_last c xs =
     let all : count c.0 (xs ++ c ∷ []) ≡ count c.0 xs + one_if (eqb c.0 c.0) = count_push c.0 xs c in
     let one : one_if (eqb c.0 c.0) ≡ 1 = one_same c.0 in
     omega arith
 
-pending_once : (n : ℕ) (b : Bool) (c : ClauseId) (xs : List ClauseId) → count n xs ≤ 1 → (0 < count c.0 xs → ⊥) → count n (with_last b c xs) ≤ 1
-pending_once n false c xs h new = h
-pending_once n true c xs h new = elim (eqb_tells n c.0) [
-  | inl y ↦
-      let all : count n (xs ++ c ∷ []) ≡ count n xs + one_if (eqb n c.0) = count_push n xs c in
-      let one : one_if (eqb n c.0) ≡ 1 = ap one_if y.0 in
-      let none : count n xs ≤ 0 = subst (λ (k : ℕ). count k xs ≤ 0) (sym y.1) (none_of (count c.0 xs) new) in
-      omega arith
-  | inr y ↦
-      let all : count n (xs ++ c ∷ []) ≡ count n xs + one_if (eqb n c.0) = count_push n xs c in
-      let none : one_if (eqb n c.0) ≡ 0 = ap one_if y.0 in
-      omega arith
+-- ---- the literals that a new clause watches
+
+-- all of the clause was looked at
+pub beside_found : (clause part : List Signed) (l : Signed) (o : Option Signed) → part ≡ clause → IsBesideSoFar clause part l o → IsBeside clause l o
+beside_found clause part l None whole far = subst (λ (ms : List Signed). (m : Signed) → has ms m ≡ true → m ≡ l) whole far
+beside_found clause part l (Some k) whole far = far
+
+has_read : (xs : List Signed) (i : ℕ) (d : Signed) → i < length xs → has xs (get_or xs i d) ≡ true
+has_read [] i d below = absurd (omega arith)
+has_read (x ∷ xs) zero d below = has_here x xs x refl
+has_read (x ∷ xs) (suc i) d below = has_later x xs (get_or xs i d) (has_read xs i d (omega arith))
+
+-- one literal more, which is the one beside
+pub beside_past : (xs : List Signed) (i : ℕ) (l d : Signed) (o : Option Signed) → i < length xs → get_or xs i d ≡ l → IsBesideSoFar xs (take i xs) l o → IsBesideSoFar xs (take (i + 1) xs) l o
+beside_past xs i l d None below is far = λ m h. elim (has_more xs i d m below h) [ inl a ↦ far m a | inr e ↦ sym e ∙ is ]
+beside_past xs i l d (Some k) below is far = far
+
+-- one literal more, which is another one
+pub beside_more : (xs : List Signed) (i : ℕ) (l d b : Signed) (o : Option Signed) → i < length xs → same_literal l (get_or xs i d) ≡ false → IsEither o (get_or xs i d) b → IsBesideSoFar xs (take i xs) l o → IsBesideSoFar xs (take (i + 1) xs) l (Some b)
+beside_more xs i l d b None below other is far = (
+  subst (λ (m : Signed). has xs m ≡ true) (sym is) (has_read xs i d below),
+  subst (λ (m : Signed). same_literal l m ≡ false) (sym is) other,
+)
+beside_more xs i l d b (Some k) below other (inl is) far = (
+  subst (λ (m : Signed). has xs m ≡ true) (sym is) (has_read xs i d below),
+  subst (λ (m : Signed). same_literal l m ≡ false) (sym is) other,
+)
+beside_more xs i l d b (Some k) below other (inr is) far = (
+  subst (λ (m : Signed). has xs m ≡ true) (sym is) far.0,
+  subst (λ (m : Signed). same_literal l m ≡ false) (sym is) far.1,
+)
+
+one_of : (a b m : Signed) → a ≡ b → has (a ∷ b ∷ []) m ≡ true → m ≡ a
+one_of a b m same h = elim (has-cons a (b ∷ []) m h) [
+  | inl e ↦ sym e
+  | inr later ↦ elim (has-cons b [] m later) [ inl e ↦ sym e ∙ sym same | inr e ↦ absurd (both_ways false refl e) ]
 ]
-  where
-    none_of : (k : ℕ) → (0 < k → ⊥) → k ≤ 0
-    none_of zero h = omega arith
-    none_of (suc k) h = absurd (h (omega arith))
 
--- a clause of two literals is one of the clauses
-pub two_below : (s : SatState) (n : ℕ) → HasTwo (clause_at (clauses_of s) n) → n < length s.clauses
-two_below s n (l, m, present, other, differ) =
-    let below : n < length (clauses_of s) = in_range_from (clauses_of s) n l present in
-    let same : length (clauses_of s) ≡ length s.clauses = length-lists s.clauses in
-    omega arith
+-- a clause of two literals watches both, unless they are equal
+pub two_first : (a b l : Signed) (o : Option WatchedLiterals) → has (a ∷ b ∷ []) l ≡ true → AreBoth a b o → AreFirst (a ∷ b ∷ []) l o
+two_first a b l None present same = record { present = present; alone = λ m h. one_of a b m same h ∙ sym (one_of a b l same present) }
+two_first a b l (Some p) present (first, second, differ) = (
+  record {
+    first = subst (λ (m : Signed). has (a ∷ b ∷ []) m ≡ true) (sym first) (has_here a (b ∷ []) a refl);
+    second = subst (λ (m : Signed). has (a ∷ b ∷ []) m ≡ true) (sym second) (has_later a (b ∷ []) b (has_here b [] b refl));
+  },
+  subst (λ (m : Signed). same_literal m p.second ≡ false) (sym first) (subst (λ (m : Signed). same_literal a m ≡ false) (sym second) differ),
+)
 
-pub pending_below : (s : SatState) (v : WatchLists) (n : ℕ) → IsFit s v → IsPending n v → n < length s.clauses
-pending_below s v n fits stays_pending = two_below s n (fits.two n stays_pending)
+-- what a clause watches differs
+pub first_differ : (clause : List Signed) (l : Signed) (o : Option WatchedLiterals) → AreFirst clause l o → IfSome o (λ p. same_literal p.first p.second ≡ false)
+first_differ clause l None first = tt
+first_differ clause l (Some p) first = first.1
 
--- a clause that watches nothing was added
-none_more : (ps : List (Option WatchedLiterals)) (n : ℕ) → pair_at (ps ++ None ∷ []) n ≡ pair_at ps n
-none_more [] zero = refl
-none_more [] (suc n) = refl
-none_more (p ∷ ps) zero = refl
-none_more (p ∷ ps) (suc n) = none_more ps n
+own_of : (clause : List Signed) (l : Signed) (o : Option WatchedLiterals) (q : WatchedLiterals) → AreFirst clause l o → o ≡ Some q → IsOwnPair clause q
+own_of clause l None q first is = absurd (not_none q is)
+own_of clause l (Some p) q first is = let same : p ≡ q = cc in subst (IsOwnPair clause) same first.0
+
+-- ---- a new clause
+
+-- it is once in each of its lists
+began_fit : (id : ClauseId) (l : Signed) (clause : List Signed) (o : Option WatchedLiterals) (v u : WatchLists) → IsWatched v.watched.items (watchers v.watches) → id.0 ≡ length v.watched.items → AreFirst clause l o → BeginsIn id o v u → IsWatched (v.watched.items ++ o ∷ []) (watchers u.watches)
+began_fit id l clause None v u well number first same = subst (λ (m : WatchMap). IsWatched (v.watched.items ++ None ∷ []) (watchers m)) (sym same) (unwatched_well v.watched.items (watchers v.watches) well)
+began_fit id l clause (Some p) v u well number first starts = started_well v.watched.items (watchers v.watches) (watchers u.watches) id p number well first.1 starts
 
 -- a clause that is listed as a unit clause is one
-only_if : (literals : List Signed) (l : Signed) (is_long wanted : Bool) → HasAnother literals l is_long → (not is_long && wanted) ≡ true → IsOnly literals l
-only_if literals l true wanted h e = absurd (both_ways false refl e)
-only_if literals l false wanted h e = h
+only_if : (literals : List Signed) (l : Signed) (o : Option WatchedLiterals) (wanted : Bool) → AreFirst literals l o → (is_none o && wanted) ≡ true → IsOnly literals l
+only_if literals l None wanted first e = first
+only_if literals l (Some p) wanted first e = absurd (both_ways false refl e)
 
-two_if : (literals : List Signed) (l : Signed) (is_long : Bool) → HasAnother literals l is_long → is_long ≡ true → HasTwo literals
-two_if literals l true h e = h
-two_if literals l false h e = absurd (both_ways false refl e)
-
-pub clause_pending : (c : SatClause) (id : ClauseId) (literal : Signed) (is_long is_rule : Bool) (s t : SatState) (v w : WatchLists) → IsReady s v → AreCovered s v → HasAnother c.literals literal is_long
-    → Adds c id s t → Begins (record { clause = id; literal = literal }) is_long is_rule v w → AddsPending c id s v t w
-clause_pending c id literal is_long is_rule s t v w ready covers another adds begun = record {
+pub clause_added : (c : SatClause) (id : ClauseId) (literal : Signed) (is_rule : Bool) (o : Option WatchedLiterals) (s t : SatState) (v u w : WatchLists) → IsReady s v → AreCovered s v → AreFirst c.literals literal o
+    → Adds c id s t → NotesPending id o t v u → Begins (record { clause = id; literal = literal }) o is_rule u w → AddsClause c id s v t w
+clause_added c id literal is_rule o s t v u w ready covers first adds noted begins = record {
   adds = adds;
   ready = record {
     state = adds.state;
-    fits = fits;
+    fits = record {
+      fit = subst (λ (ps : List (Option WatchedLiterals)). IsWatched ps (watchers w.watches)) (sym begun.watched) (began_fit id literal c.literals o (record v { pending = u.pending }) w ready.fits.fit at_end first begun.watches);
+      each = ap length begun.watched ∙ length-append v.watched.items (o ∷ []) ∙ ap (λ n. n + 1) ready.fits.each ∙ sym long;
+      own = λ n q is. owns n q is (cases_number n (length v.watched.items));
+    };
     qhead =
         let low : s.qhead ≤ length s.tracker.trail = ready.qhead in
         let qhead : t.qhead ≡ s.qhead = adds.qhead in
-        let long : length t.tracker.trail ≡ length s.tracker.trail = ap (λ (x : Tracked). length x.trail) adds.tracker in
+        let same : length t.tracker.trail ≡ length s.tracker.trail = ap (λ (x : Tracked). length x.trail) adds.tracker in
         omega arith;
-    walked = λ n q is.
-        subst (λ (x : Tracked). GuardsTo t.guard_level (before x.trail t.qhead) (reverse x.trail) q) (sym adds.tracker)
-        (subst (λ (g : ℕ). GuardsTo g (before s.tracker.trail t.qhead) (history s) q) (sym adds.guard)
-        (subst (λ (k : ℕ). GuardsTo s.guard_level (before s.tracker.trail k) (history s) q) (sym adds.qhead) (ready.walked n q (sym (pair n) ∙ is))));
-    done = done_kept s t v w begun.units_done
-        (subst (FirstSame v.assertions.items) (sym begun.assertions) (first_more (not is_long && is_rule) x v.assertions.items))
-        (subst (FirstSame v.learnt.items) (sym begun.learnt) (first_more (not is_long && not is_rule) x v.learnt.items))
+    walked = λ n q is out. walks n q is out (cases_number n (length v.watched.items));
+    done = done_kept s t v w (notes_same v w begun.units_done)
+        (subst (FirstSame v.assertions.items) (sym begun.assertions) (first_more (is_none o && is_rule) x v.assertions.items))
+        (subst (FirstSame v.learnt.items) (sym begun.learnt) (first_more (is_none o && not is_rule) x v.learnt.items))
         (λ d all below. (let qhead : t.qhead ≡ s.qhead = adds.qhead in (omega arith, ap (λ (y : Tracked). before y.trail d.entries) adds.tracker)))
         ready.done;
   };
   covered = record {
-    assertions = subst (AreUnits (clauses_of t)) (sym begun.assertions) (units_with (clauses_of t) (not is_long && is_rule) x v.assertions.items (kept v.assertions.items covers.assertions) (only is_rule));
-    learnt = subst (AreUnits (clauses_of t)) (sym begun.learnt) (units_with (clauses_of t) (not is_long && not is_rule) x v.learnt.items (kept v.learnt.items covers.learnt) (only (not is_rule)));
+    assertions = subst (AreUnits (clauses_of t)) (sym begun.assertions) (units_with (clauses_of t) (is_none o && is_rule) x v.assertions.items (kept v.assertions.items covers.assertions) (only is_rule));
+    learnt = subst (AreUnits (clauses_of t)) (sym begun.learnt) (units_with (clauses_of t) (is_none o && not is_rule) x v.learnt.items (kept v.learnt.items covers.learnt) (only (not is_rule)));
     covered = λ n below none. covered n below none (cases_number n (length v.watched.items));
     first = subst (λ (l : List Signed). has l (yes root) ≡ true) (sym (ap (λ (cs : List (List Signed)). clause_at cs 0) added ∙ clause_at_kept (clauses_of s) (c.literals ∷ []) 0 (yes root) covers.first)) covers.first;
   };
@@ -185,6 +198,9 @@ clause_pending c id literal is_long is_rule s t v w ready covers another adds be
   where
     x : UnitClause
     x = record { clause = id; literal = literal }
+
+    begun : Begins x o is_rule (record v { pending = u.pending }) w
+    begun = subst (λ (y : WatchLists). Begins x o is_rule y w) noted.rest begins
 
     added : clauses_of t ≡ clauses_of s ++ c.literals ∷ []
     added = ap lists adds.added ∙ lists-append s.clauses (c ∷ [])
@@ -205,8 +221,8 @@ clause_pending c id literal is_long is_rule s t v w ready covers another adds be
         let more : length t.clauses ≡ length s.clauses + 1 = long in
         omega arith
 
-    only : (wanted : Bool) → (not is_long && wanted) ≡ true → (id.0 < length (clauses_of t)) × IsOnly (clause_at (clauses_of t) id.0) literal
-    only wanted e = (below_end, subst (λ (l : List Signed). IsOnly l literal) (sym last_clause) (only_if c.literals literal is_long wanted another e))
+    only : (wanted : Bool) → (is_none o && wanted) ≡ true → (id.0 < length (clauses_of t)) × IsOnly (clause_at (clauses_of t) id.0) literal
+    only wanted e = (below_end, subst (λ (l : List Signed). IsOnly l literal) (sym last_clause) (only_if c.literals literal o wanted first e))
 
     kept : (xs : List UnitClause) → AreUnits (clauses_of s) xs → AreUnits (clauses_of t) xs
     kept xs a = subst (λ (cs : List (List Signed)). AreUnits cs xs) (sym added) (units_kept (clauses_of s) (c.literals ∷ []) xs a)
@@ -214,49 +230,48 @@ clause_pending c id literal is_long is_rule s t v w ready covers another adds be
     same_clause : (n : ℕ) (l : Signed) → has (clause_at (clauses_of s) n) l ≡ true → clause_at (clauses_of t) n ≡ clause_at (clauses_of s) n
     same_clause n l h = ap (λ (cs : List (List Signed)). clause_at cs n) added ∙ clause_at_kept (clauses_of s) (c.literals ∷ []) n l h
 
-    pair : (n : ℕ) → pair_at w.watched.items n ≡ pair_at v.watched.items n
-    pair n = ap (λ (ps : List (Option WatchedLiterals)). pair_at ps n) begun.watched ∙ none_more v.watched.items n
+    -- the new clause's pair, and those of the others
+    newest_pair : (n : ℕ) → n ≡ length v.watched.items → pair_at w.watched.items n ≡ o
+    newest_pair n e = ap (λ (ps : List (Option WatchedLiterals)). pair_at ps n) begun.watched ∙ ap (pair_at (v.watched.items ++ o ∷ [])) e ∙ pair_at_end v.watched.items o
 
-    -- a pending clause was pending before, or is the new one
-    stays_pending : (n : ℕ) → IsPending n w → (IsPending n v) ⊎ ((is_long ≡ true) × (n ≡ id.0))
-    stays_pending n h = pending_cases n is_long id v.pending.items (subst (λ (cs : List ClauseId). 0 < count n cs) begun.pending h)
+    older_pair : (n : ℕ) → (n ≡ length v.watched.items → ⊥) → pair_at w.watched.items n ≡ pair_at v.watched.items n
+    older_pair n e = ap (λ (ps : List (Option WatchedLiterals)). pair_at ps n) begun.watched ∙ pair_before_end v.watched.items o n e
 
-    unwatched : (n : ℕ) → (IsPending n v) ⊎ ((is_long ≡ true) × (n ≡ id.0)) → pair_at v.watched.items n ≡ None
-    unwatched n (inl h) = ready.fits.unwatched n h
-    unwatched n (inr (is, here)) = pair_past v.watched.items n (let e : id.0 ≡ length v.watched.items = at_end in omega arith)
+    owns : (n : ℕ) (q : WatchedLiterals) → pair_at w.watched.items n ≡ Some q → (n ≡ length v.watched.items) ⊎ (n ≡ length v.watched.items → ⊥) → IsOwnPair (clause_at (clauses_of t) n) q
+    owns n q is (inl e) =
+        subst (λ (k : ℕ). IsOwnPair (clause_at (clauses_of t) k) q) (at_end ∙ sym e)
+        (subst (λ (l : List Signed). IsOwnPair l q) (sym last_clause) (own_of c.literals literal o q first (sym (newest_pair n e) ∙ is)))
+    owns n q is (inr e) =
+        let own : IsOwnPair (clause_at (clauses_of s) n) q = ready.fits.own n q (sym (older_pair n e) ∙ is) in
+        subst (λ (l : List Signed). IsOwnPair l q) (sym (same_clause n q.first own.first)) own
 
-    two : (n : ℕ) → (IsPending n v) ⊎ ((is_long ≡ true) × (n ≡ id.0)) → HasTwo (clause_at (clauses_of t) n)
-    two n (inl h) =
-        let both : HasTwo (clause_at (clauses_of s) n) = ready.fits.two n h in
-        subst HasTwo (sym (same_clause n both.0 both.2)) both
-    two n (inr (is, here)) = subst (λ (k : ℕ). HasTwo (clause_at (clauses_of t) k)) (sym here) (subst HasTwo (sym last_clause) (two_if c.literals literal is_long another is))
+    -- what was pending is so still
+    pending_kept : (n : ℕ) → IsPending n v → IsPending n w
+    pending_kept n h =
+        subst (λ (cs : Vec ClauseId Global). 0 < count n cs.items) (sym begun.pending)
+        (elim noted.listed [
+          | inl same ↦ subst (λ (cs : Vec ClauseId Global). 0 < count n cs.items) (sym same.0) h
+          | inr pushed ↦ (let all : count n u.pending.items ≡ count n v.pending.items + one_if (eqb n id.0) = ap (count n) pushed ∙ count_push n v.pending.items id in omega arith)
+        ])
 
-    fits : IsFit t w
-    fits = record {
-      fit =
-          subst (λ (m : WatchMap). IsWatched w.watched.items (watchers m)) (sym begun.watches)
-          (subst (λ (ps : List (Option WatchedLiterals)). IsWatched ps (watchers v.watches)) (sym begun.watched) (unwatched_well v.watched.items (watchers v.watches) ready.fits.fit));
-      each = ap length begun.watched ∙ length-append v.watched.items (None ∷ []) ∙ ap (λ n. n + 1) ready.fits.each ∙ sym long;
-      own = λ n q is.
-          let own : IsOwnPair (clause_at (clauses_of s) n) q = ready.fits.own n q (sym (pair n) ∙ is) in
-          subst (λ (l : List Signed). IsOwnPair l q) (sym (same_clause n q.first own.first)) own;
-      unwatched = λ n h. pair n ∙ unwatched n (stays_pending n h);
-      two = λ n h. two n (stays_pending n h);
-      once = λ n. subst (λ (cs : List ClauseId). count n cs ≤ 1) (sym begun.pending) (pending_once n is_long id v.pending.items (ready.fits.once n) (λ h.
-          let below : id.0 < length s.clauses = pending_below s v id.0 ready.fits h in
-          let number : id.0 ≡ length s.clauses = adds.number in
-          absurd (omega arith)));
-    }
+    walks : (n : ℕ) (q : WatchedLiterals) → pair_at w.watched.items n ≡ Some q → (IsPending n w → ⊥) → (n ≡ length v.watched.items) ⊎ (n ≡ length v.watched.items → ⊥) → GuardsTo t.guard_level (before t.tracker.trail t.qhead) (history t) q
+    walks n q is out (inl e) = elim noted.listed [
+      | inl same ↦ open_guards t t.guard_level t.qhead q (subst (λ (p : Option WatchedLiterals). IfSome p (AreOpen (made_true (history t)))) (sym (newest_pair n e) ∙ is) same.1)
+      | inr pushed ↦ absurd (out (subst (λ (k : ℕ). IsPending k w) (at_end ∙ sym e) (subst (λ (cs : Vec ClauseId Global). 0 < count id.0 cs.items) (sym begun.pending) (subst (λ (cs : List ClauseId). 0 < count id.0 cs) (sym pushed) (pending_last id v.pending.items)))))
+    ]
+    walks n q is out (inr e) =
+        subst (λ (y : Tracked). GuardsTo t.guard_level (before y.trail t.qhead) (reverse y.trail) q) (sym adds.tracker)
+        (subst (λ (g : ℕ). GuardsTo g (before s.tracker.trail t.qhead) (history s) q) (sym adds.guard)
+        (subst (λ (k : ℕ). GuardsTo s.guard_level (before s.tracker.trail k) (history s) q) (sym adds.qhead) (ready.walked n q (sym (older_pair n e) ∙ is) (λ h. out (pending_kept n h)))))
 
-    -- the clause that was added is pending, or listed as a unit clause
-    newest : (b : Bool) → is_long ≡ b → IsUnit id.0 w ⊎ IsPending id.0 w
-    newest true is = inr (subst (λ (cs : List ClauseId). 0 < count id.0 cs) (sym (begun.pending ∙ ap (λ a. with_last a id v.pending.items) is)) (pending_last id v.pending.items))
-    newest false is = inl (
+    -- a clause that watches nothing is listed as a unit clause
+    newest : o ≡ None → IsUnit id.0 w
+    newest is = (
       x,
       refl,
       elim (unit_listed is_rule x v.assertions.items v.learnt.items) [
-        | inl h ↦ inl (subst (λ (xs : List UnitClause). HasUnit xs x) (sym (begun.assertions ∙ ap (λ a. with_last (not a && is_rule) x v.assertions.items) is)) h)
-        | inr h ↦ inr (subst (λ (xs : List UnitClause). HasUnit xs x) (sym (begun.learnt ∙ ap (λ a. with_last (not a && not is_rule) x v.learnt.items) is)) h)
+        | inl h ↦ inl (subst (λ (xs : List UnitClause). HasUnit xs x) (sym (begun.assertions ∙ ap (λ (p : Option WatchedLiterals). with_last (is_none p && is_rule) x v.assertions.items) is)) h)
+        | inr h ↦ inr (subst (λ (xs : List UnitClause). HasUnit xs x) (sym (begun.learnt ∙ ap (λ (p : Option WatchedLiterals). with_last (is_none p && not is_rule) x v.learnt.items) is)) h)
       ],
     )
 
@@ -265,19 +280,16 @@ clause_pending c id literal is_long is_rule s t v w ready covers another adds be
       y,
       number,
       elim present [
-        | inl h ↦ inl (subst (λ (xs : List UnitClause). HasUnit xs y) (sym begun.assertions) (unit_stays (not is_long && is_rule) x y v.assertions.items h))
-        | inr h ↦ inr (subst (λ (xs : List UnitClause). HasUnit xs y) (sym begun.learnt) (unit_stays (not is_long && not is_rule) x y v.learnt.items h))
+        | inl h ↦ inl (subst (λ (xs : List UnitClause). HasUnit xs y) (sym begun.assertions) (unit_stays (is_none o && is_rule) x y v.assertions.items h))
+        | inr h ↦ inr (subst (λ (xs : List UnitClause). HasUnit xs y) (sym begun.learnt) (unit_stays (is_none o && not is_rule) x y v.learnt.items h))
       ],
     )
 
-    covered : (n : ℕ) → n < length t.clauses → pair_at w.watched.items n ≡ None → (n ≡ length v.watched.items) ⊎ (n ≡ length v.watched.items → ⊥) → (n ≡ 0) ⊎ (IsUnit n w ⊎ IsPending n w)
-    covered n below none (inl e) = inr (subst (λ (k : ℕ). IsUnit k w ⊎ IsPending k w) (at_end ∙ sym e) (newest is_long refl))
+    covered : (n : ℕ) → n < length t.clauses → pair_at w.watched.items n ≡ None → (n ≡ length v.watched.items) ⊎ (n ≡ length v.watched.items → ⊥) → (n ≡ 0) ⊎ IsUnit n w
+    covered n below none (inl e) = inr (subst (λ (k : ℕ). IsUnit k w) (at_end ∙ sym e) (newest (sym (newest_pair n e) ∙ none)))
     covered n below none (inr e) =
         let within : n < length s.clauses = below_other n (length s.clauses) (length t.clauses) below long (λ f. e (f ∙ sym ready.fits.each)) in
-        elim (covers.covered n within (sym (pair n) ∙ none)) [
+        elim (covers.covered n within (sym (older_pair n e) ∙ none)) [
           | inl z ↦ inl z
-          | inr other ↦ elim other [
-            | inl is_unit ↦ inr (inl (unit_kept n is_unit))
-            | inr h ↦ inr (inr (subst (λ (cs : List ClauseId). 0 < count n cs) (sym begun.pending) (pending_still n is_long id v.pending.items h)))
-          ]
+          | inr is_unit ↦ inr (unit_kept n is_unit)
         ]

@@ -5,6 +5,7 @@ use Rattle.resolvo_store_core.specs.Signed.{Signed, negation, has}
 use Rattle.resolvo_store_core.specs.Clauses.{yes, root}
 use Rattle.resolvo_store_core.specs.Trail.{Tracked}
 use Rattle.resolvo_store_core.specs.declared.decision.Entry.{Entry}
+use Rattle.resolvo_store_core.specs.declared.watched_literals.WatchedLiterals.{WatchedLiterals}
 use Rattle.resolvo_sat.specs.Clauses.{SatClause}
 use Rattle.resolvo_sat.specs.declared.state.SatState.{SatState}
 use Rattle.resolvo_sat.specs.declared.watch_lists.WatchLists.{WatchLists}
@@ -12,7 +13,7 @@ use Rattle.resolvo_sat.specs.Known.{clause_at}
 use Rattle.resolvo_sat.specs.Entries.{before, top_level, IsTrueAt}
 use Rattle.resolvo_sat.specs.State.{count_of, history, clauses_of, lists, IsState}
 use Rattle.resolvo_sat.specs.Steps.{Undoes}
-use Rattle.resolvo_sat.specs.Propagation.{IsReady, IsFit, HasTwo, IsOwnPair, AreCovered, AreUnits, SameWatching, IsGuard, GuardsTo, RecordsGuard, IsWalkedTo, Extends}
+use Rattle.resolvo_sat.specs.Propagation.{IsReady, IsFit, IsOwnPair, AreCovered, AreUnits, SameWatching, IsGuard, GuardsTo, RecordsGuard, IsWalkedTo, Extends}
 use Rattle.resolvo_sat.proofs.Trails.{kept, level_le_last, undone_older}
 use Rattle.resolvo_sat.proofs.StepLemmas.{undone_low}
 use Rattle.resolvo_sat.proofs.ExtendLemmas.{level_in_more, level_by_now}
@@ -25,21 +26,23 @@ fits_same s t w fits same = record {
   fit = fits.fit;
   each = fits.each ∙ sym (ap (λ (cs : List SatClause). length cs) same);
   own = λ n p is. subst (λ (cs : List SatClause). IsOwnPair (clause_at (lists cs) n) p) (sym same) (fits.own n p is);
-  unwatched = fits.unwatched;
-  two = λ n stays_pending. subst (λ (cs : List SatClause). HasTwo (clause_at (lists cs) n)) (sym same) (fits.two n stays_pending);
-  once = fits.once;
 }
 
 -- before the first entry no literal is false
 pub walked_none : (s : SatState) (w : WatchLists) → IsWalkedTo 0 s w
-walked_none s w n p is = record { first = λ k f. absurd f; second = λ k f. absurd f }
+walked_none s w n p is out = record { first = λ k f. absurd f; second = λ k f. absurd f }
+
+-- a pair is guarded as far where the trail is longer
+pub guards_longer : (s t : SatState) (k : ℕ) (more : List Entry) (p : WatchedLiterals) → t.tracker.trail ≡ s.tracker.trail ++ more → s.guard_level ≤ t.guard_level → k ≤ length s.tracker.trail
+    → GuardsTo s.guard_level (before s.tracker.trail k) (history s) p → GuardsTo t.guard_level (before t.tracker.trail k) (history t) p
+guards_longer s t k more p added higher low x =
+    subst (λ (xs : List Entry). GuardsTo t.guard_level (before xs k) (reverse xs) p) (sym added)
+    (subst (λ (h : List Entry). GuardsTo t.guard_level h (reverse (s.tracker.trail ++ more)) p) (sym (ap reverse (take-append-le k s.tracker.trail more low)))
+    (guards_more s.guard_level t.guard_level (before s.tracker.trail k) (history s) (reverse (s.tracker.trail ++ more)) p higher (λ l j h. level_in_more s.tracker.trail more l j h) x))
 
 -- a longer trail was walked as far
 pub walked_more : (s t : SatState) (k : ℕ) (w : WatchLists) (more : List Entry) → t.tracker.trail ≡ s.tracker.trail ++ more → s.guard_level ≤ t.guard_level → k ≤ length s.tracker.trail → IsWalkedTo k s w → IsWalkedTo k t w
-walked_more s t k w more added higher low walked n p is =
-    subst (λ (xs : List Entry). GuardsTo t.guard_level (before xs k) (reverse xs) p) (sym added)
-    (subst (λ (h : List Entry). GuardsTo t.guard_level h (reverse (s.tracker.trail ++ more)) p) (sym (ap reverse (take-append-le k s.tracker.trail more low)))
-    (guards_more s.guard_level t.guard_level (before s.tracker.trail k) (history s) (reverse (s.tracker.trail ++ more)) p higher (λ l j h. level_in_more s.tracker.trail more l j h) (walked n p is)))
+walked_more s t k w more added higher low walked n p is out = guards_longer s t k more p added higher low (walked n p is out)
 
 -- entries were added, and the clauses are the same
 pub ready_more : (s t : SatState) (w : WatchLists) (more : List Entry) → IsReady s w → IsState t → t.clauses ≡ s.clauses → t.tracker.trail ≡ s.tracker.trail ++ more → t.qhead ≡ s.qhead → s.guard_level ≤ t.guard_level → IsReady t w
@@ -51,7 +54,7 @@ ready_more s t w more ready state clauses added qhead higher = record {
       let long : length t.tracker.trail ≡ length s.tracker.trail + length more = ap length added ∙ length-append s.tracker.trail more in
       omega arith;
   walked = subst (λ (k : ℕ). IsWalkedTo k t w) (sym qhead) (walked_more s t s.qhead w more added higher ready.qhead ready.walked);
-  done = done_same s t w w refl refl refl (omega arith) (λ k le. let low : s.qhead ≤ length s.tracker.trail = ready.qhead in ap (λ (xs : List Entry). before xs k) added ∙ ap reverse (take-append-le k s.tracker.trail more (omega arith))) ready.done;
+  done = done_same s t w w (λ i d h. h) refl refl (omega arith) (λ k le. let low : s.qhead ≤ length s.tracker.trail = ready.qhead in ap (λ (xs : List Entry). before xs k) added ∙ ap reverse (take-append-le k s.tracker.trail more (omega arith))) ready.done;
 }
 
 pub ready_extends : (s t : SatState) (w : WatchLists) → IsReady s w → Extends s t → t.qhead ≡ s.qhead → IsReady t w
@@ -63,11 +66,11 @@ ready_same s t w ready state clauses tracker qhead guard = ready_more s t w [] r
 
 -- entries above the level were taken away, and no guard was above it that has to stay
 walked_undone : (s t : SatState) (w : WatchLists) (level : ℕ) → Undoes level s t → 1 ≤ level → IsState s → s.guard_level ≤ level → t.guard_level ≡ s.guard_level → t.qhead ≤ s.qhead → t.qhead ≤ length t.tracker.trail → IsWalkedTo s.qhead s w → IsWalkedTo t.qhead t w
-walked_undone s t w level undoes one state low same qhead within walked n p is =
+walked_undone s t w level undoes one state low same qhead within walked n p is out =
     let (gone, old) = undone_older level (history s) (history t) undoes.undone in
     record {
-      first = λ k f. guard k p.second ((walked n p is).first k (earlier gone old (negation p.first) k f)) (not_above (negation p.first) k f);
-      second = λ k f. guard k p.first ((walked n p is).second k (earlier gone old (negation p.second) k f)) (not_above (negation p.second) k f);
+      first = λ k f. guard k p.second ((walked n p is out).first k (earlier gone old (negation p.first) k f)) (not_above (negation p.first) k f);
+      second = λ k f. guard k p.first ((walked n p is out).second k (earlier gone old (negation p.second) k f)) (not_above (negation p.second) k f);
     }
   where
     not_above : (l : Signed) (k : ℕ) → IsTrueAt (before t.tracker.trail t.qhead) l k → k ≤ level
@@ -104,14 +107,14 @@ ready_undone s t w level undoes ready = elim undoes.qhead [
     fits = fits_same s t w ready.fits undoes.same.clauses;
     qhead = omega arith;
     walked = subst (λ (k : ℕ). IsWalkedTo k t w) (sym anew) (walked_none t w);
-    done = done_same s t w w refl refl refl (omega arith) (λ k le. first_undone s t level k undoes (omega arith)) ready.done;
+    done = done_same s t w w (λ i d h. h) refl refl (omega arith) (λ k le. first_undone s t level k undoes (omega arith)) ready.done;
   }
   | inr (one, low, same, qhead) ↦ record {
     state = undoes.state;
     fits = fits_same s t w ready.fits undoes.same.clauses;
     qhead = omega arith;
     walked = walked_undone s t w level undoes one ready.state low same (omega arith) (omega arith) ready.walked;
-    done = done_same s t w w refl refl refl (omega arith) (λ k le. first_undone s t level k undoes (omega arith)) ready.done;
+    done = done_same s t w w (λ i d h. h) refl refl (omega arith) (λ k le. first_undone s t level k undoes (omega arith)) ready.done;
   }
 ]
 
@@ -150,16 +153,15 @@ guard_extends o s t l m e recorded =
 
 -- the clauses' watches are the same
 pub same_watching : (w : WatchLists) → SameWatching w w
-same_watching w = record { assertions = refl; learnt = refl; units_done = refl; pairs = λ n h. h; was_pending = λ n h. h; stays_pending = λ n h none. h }
+same_watching w = record { assertions = refl; learnt = refl; notes = λ i d h. h; pairs = λ n h. h; was_pending = λ n h. h }
 
 pub watching_more : (u v w : WatchLists) → SameWatching u v → SameWatching v w → SameWatching u w
 watching_more u v w a b = record {
   assertions = b.assertions ∙ a.assertions;
   learnt = b.learnt ∙ a.learnt;
-  units_done = b.units_done ∙ a.units_done;
+  notes = λ i d h. a.notes i d (b.notes i d h);
   pairs = λ n none. a.pairs n (b.pairs n none);
-  was_pending = λ n stays_pending. a.was_pending n (b.was_pending n stays_pending);
-  stays_pending = λ n stays_pending none. b.stays_pending n (a.stays_pending n stays_pending (b.pairs n none)) none;
+  was_pending = λ n h. a.was_pending n (b.was_pending n h);
 }
 
 -- watches that cover some clauses cover the same clauses

@@ -23,8 +23,8 @@ use Rattle.resolvo_sat.proofs.Literals.{has_here, negation-negation}
 use Rattle.resolvo_sat.proofs.Trails.{consistent, entry_read, known_from_level, level_from_known}
 use Rattle.resolvo_sat.proofs.ExtendLemmas.{extends_more, extends_nothing, true_by_now, level_kept, level_by_now, before_kept}
 use Rattle.resolvo_sat.proofs.Guards.{guard_more, level_is}
-use Rattle.resolvo_sat.proofs.DoneLemmas.{done_same}
-use Rattle.resolvo_sat.proofs.Readiness.{fits_same, walked_more, guard_extends, same_watching}
+use Rattle.resolvo_sat.proofs.DoneLemmas.{done_same, notes_same}
+use Rattle.resolvo_sat.proofs.Readiness.{fits_same, walked_more, guard_extends, same_watching, watching_more}
 
 pub pair_watches : (s : SatState) (w : WatchLists) (l : Signed) (place : ℕ) (n : ClauseId) (p : WatchedLiterals) → IsFit s w → slice_get (watchers w.watches l) place ≡ Some n → pair_at w.watched.items n.0 ≡ Some p → watches (Some p) l ≡ true
 pair_watches s w l place n p fits at is =
@@ -174,92 +174,101 @@ got_in_range [] place c e = cc
 got_in_range (x ∷ xs) zero c e = omega arith
 got_in_range (x ∷ xs) (suc place) c e = let a : place < length xs = got_in_range xs place c e in omega arith
 
-moves_here : (k : ℕ) (l : Signed) (place : ℕ) (c : ClauseId) (o s t : SatState) (v w x : WatchLists) → IsVisiting k l place o s v w → slice_get (watchers w.watches l) place ≡ Some c
-    → (r : Replaces l place c.0 s t w x) → r.moves.clause ≡ c → IsVisiting k l place o s v x
-moves_here k l place c o s t v w x propagate_literal at r named = record {
-  fits = record {
+-- ---- a clause watches another literal
+
+module _ (l : Signed) (place : ℕ) (c : ClauseId) (s t : SatState) (w x : WatchLists) (fits : IsFit s w) (at : slice_get (watchers w.watches l) place ≡ Some c) (r : Replaces l place c.0 s t w x) where
+  moved_is : r.moves.clause ≡ c
+  moved_is = let both : Some r.moves.clause ≡ Some c = sym r.moves.lists.was_in ∙ at in cc
+
+  moved_watched : watches (Some r.moves.pair) l ≡ true
+  moved_watched = pair_watches s w l place r.moves.clause r.moves.pair fits r.moves.lists.was_in r.moves.watched
+
+  moved_unwatched : watches (Some r.moves.pair) r.to ≡ false
+  moved_unwatched = ap (λ (o : Option WatchedLiterals). watches o r.to) (sym r.moves.watched) ∙ subst (λ (i : ClauseId). watches (pair_at w.watched.items i.0) r.to ≡ false) (sym moved_is) r.unwatched
+
+  moved_here : pair_at x.watched.items r.moves.clause.0 ≡ Some (moved_pair r.moves.pair l r.to)
+  moved_here = ap (λ (ps : List (Option WatchedLiterals)). pair_at ps r.moves.clause.0) r.moves.pairs ∙ pair_at-set_same w.watched.items r.moves.clause.0 (Some (moved_pair r.moves.pair l r.to)) (pair_in_range w.watched.items r.moves.clause.0 r.moves.pair r.moves.watched)
+
+  moved_elsewhere : (n : ℕ) → (n ≡ r.moves.clause.0 → ⊥) → pair_at x.watched.items n ≡ pair_at w.watched.items n
+  moved_elsewhere n other = ap (λ (ps : List (Option WatchedLiterals)). pair_at ps n) r.moves.pairs ∙ pair_at-set_other w.watched.items r.moves.clause.0 n (Some (moved_pair r.moves.pair l r.to)) (λ e. other (sym e))
+
+  -- a pair is that of the clause that moved, or was there
+  moved_after : (n : ℕ) (q : WatchedLiterals) → pair_at x.watched.items n ≡ Some q → ((n ≡ r.moves.clause.0) × (moved_pair r.moves.pair l r.to ≡ q)) ⊎ ((eqb n r.moves.clause.0 ≡ false) × (pair_at w.watched.items n ≡ Some q))
+  moved_after n q h = elim (eqb_tells n r.moves.clause.0) [
+    | inl y ↦ inl (y.1, same_pair x.watched.items r.moves.clause.0 (moved_pair r.moves.pair l r.to) q moved_here (subst (λ (i : ℕ). pair_at x.watched.items i ≡ Some q) y.1 h))
+    | inr y ↦ inr (y.0, sym (moved_elsewhere n y.1) ∙ h)
+  ]
+
+  moved_none : (n : ℕ) → pair_at x.watched.items n ≡ None → ((eqb n r.moves.clause.0 ≡ true) × (n ≡ r.moves.clause.0)) ⊎ ((eqb n r.moves.clause.0 ≡ false) × (n ≡ r.moves.clause.0 → ⊥)) → pair_at w.watched.items n ≡ None
+  moved_none n h (inl y) =
+      let both : Some (moved_pair r.moves.pair l r.to) ≡ None = sym moved_here ∙ subst (λ (i : ℕ). pair_at x.watched.items i ≡ None) y.1 h in
+      cc
+  moved_none n h (inr y) = sym (moved_elsewhere n y.1) ∙ h
+
+  moved_own : (n : ℕ) (q : WatchedLiterals) → ((n ≡ r.moves.clause.0) × (moved_pair r.moves.pair l r.to ≡ q)) ⊎ ((eqb n r.moves.clause.0 ≡ false) × (pair_at w.watched.items n ≡ Some q)) → IsOwnPair (clause_at (clauses_of s) n) q
+  moved_own n q (inl y) =
+      subst (IsOwnPair (clause_at (clauses_of s) n)) y.1
+      (own_moved (clause_at (clauses_of s) n) r.moves.pair l r.to
+      (subst (λ (i : ℕ). IsOwnPair (clause_at (clauses_of s) i) r.moves.pair) (sym y.0) (fits.own r.moves.clause.0 r.moves.pair r.moves.watched))
+      (subst (λ (i : ℕ). has (clause_at (clauses_of s) i) r.to ≡ true) (sym (y.0 ∙ ap (λ (i : ClauseId). i.0) moved_is)) r.own))
+  moved_own n q (inr y) = fits.own n q y.1
+
+  pub moved_fits : IsFit s x
+  moved_fits = record {
     fit = r.moves.fit;
-    each = ap length r.moves.pairs ∙ length-set w.watched.items r.moves.clause.0 (Some (moved_pair r.moves.pair l r.to)) ∙ propagate_literal.fits.each;
-    own = λ n q h. owns n q (after n q h);
-    unwatched = λ n h. unwatched_still n (was_pending n h) (eqb_tells n r.moves.clause.0);
-    two = λ n h. propagate_literal.fits.two n (was_pending n h);
-    once = λ n. subst (λ (cs : Vec ClauseId Global). count n cs.items ≤ 1) (sym r.pending) (propagate_literal.fits.once n);
-  };
+    each = ap length r.moves.pairs ∙ length-set w.watched.items r.moves.clause.0 (Some (moved_pair r.moves.pair l r.to)) ∙ fits.each;
+    own = λ n q h. moved_own n q (moved_after n q h);
+  }
+
+  moved_pending : (n : ℕ) → IsPending n w → IsPending n x
+  moved_pending n h = subst (λ (cs : Vec ClauseId Global). 0 < count n cs.items) (sym r.pending) h
+
+  pub moved_watching : SameWatching w x
+  moved_watching = record {
+    assertions = r.assertions;
+    learnt = r.learnt;
+    notes = notes_same w x r.units_done;
+    pairs = λ n h. moved_none n h (eqb_tells n r.moves.clause.0);
+    was_pending = λ n h. subst (λ (cs : Vec ClauseId Global). 0 < count n cs.items) r.pending h;
+  }
+
+  moved_guards : (k n : ℕ) (q : WatchedLiterals) → IsState s → has (made_true (history s)) (negation l) ≡ true → IsWalkedTo k s w → (IsPending n x → ⊥) → ((n ≡ r.moves.clause.0) × (moved_pair r.moves.pair l r.to ≡ q)) ⊎ ((eqb n r.moves.clause.0 ≡ false) × (pair_at w.watched.items n ≡ Some q))
+      → GuardsTo s.guard_level (before s.tracker.trail k) (history s) q
+  moved_guards k n q state known walked out (inl y) =
+      subst (GuardsTo s.guard_level (before s.tracker.trail k) (history s)) y.1
+      (guards_moved s.guard_level (before s.tracker.trail k) (history s) r.moves.pair l r.to
+      (walked r.moves.clause.0 r.moves.pair r.moves.watched (λ h. out (subst (λ (i : ℕ). IsPending i x) (sym y.0) (moved_pending r.moves.clause.0 h)))) moved_watched (λ m j h. level_by_now s.tracker.trail k m j h) r.free
+      (λ h. consistent (count_of s) (clauses_of s) (history s) l state.trail h known))
+  moved_guards k n q state known walked out (inr y) = walked n q y.1 (λ h. out (moved_pending n h))
+
+  pub moved_walked : (k : ℕ) → IsState s → has (made_true (history s)) (negation l) ≡ true → IsWalkedTo k s w → IsWalkedTo k s x
+  moved_walked k state known walked n q h out = moved_guards k n q state known walked out (moved_after n q h)
+
+  moved_passed : (n : ℕ) (q : WatchedLiterals) → ((m : ℕ) (p : WatchedLiterals) → pair_at w.watched.items m ≡ Some p → count m (drop place (watchers w.watches l)) ≡ 0 → Passed l s.guard_level (history s) p) → count n (drop place (watchers x.watches l)) ≡ 0
+      → ((n ≡ r.moves.clause.0) × (moved_pair r.moves.pair l r.to ≡ q)) ⊎ ((eqb n r.moves.clause.0 ≡ false) × (pair_at w.watched.items n ≡ Some q)) → Passed l s.guard_level (history s) q
+  moved_passed n q passed none (inl y) =
+      subst (Passed l s.guard_level (history s)) y.1
+      (passed_moved (moved_pair r.moves.pair l r.to) l s.guard_level (history s)
+      (moved_from r.moves.pair l r.to (fits.fit.differ r.moves.clause.0 r.moves.pair r.moves.watched) moved_watched moved_unwatched))
+  moved_passed n q passed none (inr y) =
+      let rest : drop place (watchers x.watches l) ≡ drop (suc place) (watchers w.watches l) = ap (drop place) r.moves.lists.taken ∙ drop_taken (watchers w.watches l) place (got_in_range (watchers w.watches l) place r.moves.clause r.moves.lists.was_in) in
+      passed n q y.1 (count_here (watchers w.watches l) place r.moves.clause n r.moves.lists.was_in y.0 (sym (ap (count n) rest) ∙ none))
+
+moves_here : (k : ℕ) (l : Signed) (place : ℕ) (c : ClauseId) (o s t : SatState) (v w x : WatchLists) → IsVisiting k l place o s v w → slice_get (watchers w.watches l) place ≡ Some c → Replaces l place c.0 s t w x → IsVisiting k l place o s v x
+moves_here k l place c o s t v w x propagate_literal at r = record {
+  fits = moved_fits l place c s t w x propagate_literal.fits at r;
   extends = propagate_literal.extends;
   qhead = propagate_literal.qhead;
-  walked = λ n q h. walks n q (after n q h);
-  passed = λ n q h none. passes n q none (after n q h);
+  walked = moved_walked l place c s t w x propagate_literal.fits at r k propagate_literal.extends.state (fallen_now k l place o s v w propagate_literal) propagate_literal.walked;
+  passed = λ n q h none. moved_passed l place c s t w x propagate_literal.fits at r n q propagate_literal.passed none (moved_after l place c s t w x propagate_literal.fits at r n q h);
   entry = propagate_literal.entry;
   long = propagate_literal.long;
-  watching = record { assertions = r.assertions ∙ propagate_literal.watching.assertions; learnt = r.learnt ∙ propagate_literal.watching.learnt; units_done = r.units_done ∙ propagate_literal.watching.units_done; pairs = λ n h. propagate_literal.watching.pairs n (nones n h (eqb_tells n r.moves.clause.0)); was_pending = λ n h. propagate_literal.watching.was_pending n (was_pending n h); stays_pending = λ n h none. stays_pending n (propagate_literal.watching.stays_pending n h (nones n none (eqb_tells n r.moves.clause.0))) };
+  watching = watching_more v w x propagate_literal.watching (moved_watching l place c s t w x propagate_literal.fits at r);
 }
-  where
-    was_pending : (n : ℕ) → IsPending n x → IsPending n w
-    was_pending n h = subst (λ (cs : Vec ClauseId Global). 0 < count n cs.items) r.pending h
-
-    stays_pending : (n : ℕ) → IsPending n w → IsPending n x
-    stays_pending n h = subst (λ (cs : Vec ClauseId Global). 0 < count n cs.items) (sym r.pending) h
-
-    -- a pending clause is not the clause that moved
-    unwatched_still : (n : ℕ) → IsPending n w → ((eqb n r.moves.clause.0 ≡ true) × (n ≡ r.moves.clause.0)) ⊎ ((eqb n r.moves.clause.0 ≡ false) × (n ≡ r.moves.clause.0 → ⊥)) → pair_at x.watched.items n ≡ None
-    unwatched_still n h (inl y) =
-        let none : pair_at w.watched.items r.moves.clause.0 ≡ None = subst (λ (i : ℕ). pair_at w.watched.items i ≡ None) y.1 (propagate_literal.fits.unwatched n h) in
-        let both : Some r.moves.pair ≡ None = sym r.moves.watched ∙ none in
-        cc
-    unwatched_still n h (inr y) = ap (λ (ps : List (Option WatchedLiterals)). pair_at ps n) r.moves.pairs ∙ pair_at-set_other w.watched.items r.moves.clause.0 n (Some (moved_pair r.moves.pair l r.to)) (λ e. y.1 (sym e)) ∙ propagate_literal.fits.unwatched n h
-
-    watching_l : watches (Some r.moves.pair) l ≡ true
-    watching_l = pair_watches s w l place r.moves.clause r.moves.pair propagate_literal.fits r.moves.lists.was_in r.moves.watched
-
-    unwatched : watches (Some r.moves.pair) r.to ≡ false
-    unwatched = ap (λ (o : Option WatchedLiterals). watches o r.to) (sym r.moves.watched) ∙ subst (λ (i : ClauseId). watches (pair_at w.watched.items i.0) r.to ≡ false) (sym named) r.unwatched
-
-    after : (n : ℕ) (q : WatchedLiterals) → pair_at x.watched.items n ≡ Some q → ((n ≡ r.moves.clause.0) × (moved_pair r.moves.pair l r.to ≡ q)) ⊎ ((eqb n r.moves.clause.0 ≡ false) × (pair_at w.watched.items n ≡ Some q))
-    after n q h = elim (eqb_tells n r.moves.clause.0) [
-      | inl y ↦
-          let there : pair_at x.watched.items r.moves.clause.0 ≡ Some q = subst (λ (i : ℕ). pair_at x.watched.items i ≡ Some q) y.1 h in
-          let here : pair_at x.watched.items r.moves.clause.0 ≡ Some (moved_pair r.moves.pair l r.to) = ap (λ (ps : List (Option WatchedLiterals)). pair_at ps r.moves.clause.0) r.moves.pairs ∙ pair_at-set_same w.watched.items r.moves.clause.0 (Some (moved_pair r.moves.pair l r.to)) (pair_in_range w.watched.items r.moves.clause.0 r.moves.pair r.moves.watched) in
-          inl (y.1, same_pair x.watched.items r.moves.clause.0 (moved_pair r.moves.pair l r.to) q here there)
-      | inr y ↦ inr (y.0, sym (ap (λ (ps : List (Option WatchedLiterals)). pair_at ps n) r.moves.pairs ∙ pair_at-set_other w.watched.items r.moves.clause.0 n (Some (moved_pair r.moves.pair l r.to)) (λ e. y.1 (sym e))) ∙ h)
-    ]
-
-    nones : (n : ℕ) → pair_at x.watched.items n ≡ None → ((eqb n r.moves.clause.0 ≡ true) × (n ≡ r.moves.clause.0)) ⊎ ((eqb n r.moves.clause.0 ≡ false) × (n ≡ r.moves.clause.0 → ⊥)) → pair_at w.watched.items n ≡ None
-    nones n h (inl y) =
-        let there : pair_at x.watched.items r.moves.clause.0 ≡ None = subst (λ (i : ℕ). pair_at x.watched.items i ≡ None) y.1 h in
-        let here : pair_at x.watched.items r.moves.clause.0 ≡ Some (moved_pair r.moves.pair l r.to) = ap (λ (ps : List (Option WatchedLiterals)). pair_at ps r.moves.clause.0) r.moves.pairs ∙ pair_at-set_same w.watched.items r.moves.clause.0 (Some (moved_pair r.moves.pair l r.to)) (pair_in_range w.watched.items r.moves.clause.0 r.moves.pair r.moves.watched) in
-        let both : Some (moved_pair r.moves.pair l r.to) ≡ None = sym here ∙ there in
-        cc
-    nones n h (inr y) = sym (ap (λ (ps : List (Option WatchedLiterals)). pair_at ps n) r.moves.pairs ∙ pair_at-set_other w.watched.items r.moves.clause.0 n (Some (moved_pair r.moves.pair l r.to)) (λ e. y.1 (sym e))) ∙ h
-
-    owns : (n : ℕ) (q : WatchedLiterals) → ((n ≡ r.moves.clause.0) × (moved_pair r.moves.pair l r.to ≡ q)) ⊎ ((eqb n r.moves.clause.0 ≡ false) × (pair_at w.watched.items n ≡ Some q)) → IsOwnPair (clause_at (clauses_of s) n) q
-    owns n q (inl y) =
-        subst (IsOwnPair (clause_at (clauses_of s) n)) y.1
-        (own_moved (clause_at (clauses_of s) n) r.moves.pair l r.to
-        (subst (λ (i : ℕ). IsOwnPair (clause_at (clauses_of s) i) r.moves.pair) (sym y.0) (propagate_literal.fits.own r.moves.clause.0 r.moves.pair r.moves.watched)) (subst (λ (i : ℕ). has (clause_at (clauses_of s) i) r.to ≡ true) (sym (y.0 ∙ ap (λ (i : ClauseId). i.0) named)) r.own))
-    owns n q (inr y) = propagate_literal.fits.own n q y.1
-
-    walks : (n : ℕ) (q : WatchedLiterals) → ((n ≡ r.moves.clause.0) × (moved_pair r.moves.pair l r.to ≡ q)) ⊎ ((eqb n r.moves.clause.0 ≡ false) × (pair_at w.watched.items n ≡ Some q)) → GuardsTo s.guard_level (before s.tracker.trail k) (history s) q
-    walks n q (inl y) =
-        subst (GuardsTo s.guard_level (before s.tracker.trail k) (history s)) y.1
-        (guards_moved s.guard_level (before s.tracker.trail k) (history s) r.moves.pair l r.to (propagate_literal.walked r.moves.clause.0 r.moves.pair r.moves.watched) watching_l (λ l' j h. level_by_now s.tracker.trail k l' j h) r.free
-        (λ h. consistent (count_of s) (clauses_of s) (history s) l propagate_literal.extends.state.trail h (fallen_now k l place o s v w propagate_literal)))
-    walks n q (inr y) = propagate_literal.walked n q y.1
-
-    passes : (n : ℕ) (q : WatchedLiterals) → count n (drop place (watchers x.watches l)) ≡ 0 → ((n ≡ r.moves.clause.0) × (moved_pair r.moves.pair l r.to ≡ q)) ⊎ ((eqb n r.moves.clause.0 ≡ false) × (pair_at w.watched.items n ≡ Some q)) → Passed l s.guard_level (history s) q
-    passes n q none (inl y) =
-        subst (Passed l s.guard_level (history s)) y.1
-        (passed_moved (moved_pair r.moves.pair l r.to) l s.guard_level (history s)
-        (moved_from r.moves.pair l r.to (propagate_literal.fits.fit.differ r.moves.clause.0 r.moves.pair r.moves.watched) watching_l unwatched))
-    passes n q none (inr y) =
-        let rest : drop place (watchers x.watches l) ≡ drop (suc place) (watchers w.watches l) = ap (drop place) r.moves.lists.taken ∙ drop_taken (watchers w.watches l) place (got_in_range (watchers w.watches l) place r.moves.clause r.moves.lists.was_in) in
-        propagate_literal.passed n q y.1 (count_here (watchers w.watches l) place r.moves.clause n r.moves.lists.was_in y.0 (sym (ap (count n) rest) ∙ none))
 
 pub visiting_moves : (k : ℕ) (l : Signed) (place : ℕ) (c : ClauseId) (o s t : SatState) (v w x : WatchLists) → IsVisiting k l place o s v w → slice_get (watchers w.watches l) place ≡ Some c
     → Replaces l place c.0 s t w x → IsVisiting k l place o t v x
-visiting_moves k l place c o s t v w x propagate_literal at r =
-    let both : Some r.moves.clause ≡ Some c = sym r.moves.lists.was_in ∙ at in
-    let named : r.moves.clause ≡ c = cc in
-    subst (λ (u : SatState). IsVisiting k l place o u v x) (sym r.same_state) (moves_here k l place c o s t v w x propagate_literal at r named)
+visiting_moves k l place c o s t v w x propagate_literal at r = subst (λ (u : SatState). IsVisiting k l place o u v x) (sym r.same_state) (moves_here k l place c o s t v w x propagate_literal at r)
 
 -- a walk begins: each clause that doesn't watch the literal was passed
 pub visiting_starts : (k : ℕ) (s : SatState) (w : WatchLists) (l : Signed) → IsState s → IsFit s w → FellAt l k s → IsWalkedTo k s w → IsVisiting k l 0 s s w w
@@ -287,11 +296,11 @@ visiting_ends k l place o s v w propagate_literal end = record {
   fits = propagate_literal.fits;
   extends = propagate_literal.extends;
   qhead = propagate_literal.qhead;
-  walked = λ n q h.
+  walked = λ n q h out.
       let passed = propagate_literal.passed n q h (ap (count n) (nothing_left (watchers w.watches l) place end)) in
       record {
-        first = λ j f. elim (cases q.first j f) [ inl e ↦ passed.first e.0 j e.1 | inr e ↦ (propagate_literal.walked n q h).first j e ];
-        second = λ j f. elim (cases q.second j f) [ inl e ↦ passed.second e.0 j e.1 | inr e ↦ (propagate_literal.walked n q h).second j e ];
+        first = λ j f. elim (cases q.first j f) [ inl e ↦ passed.first e.0 j e.1 | inr e ↦ (propagate_literal.walked n q h out).first j e ];
+        second = λ j f. elim (cases q.second j f) [ inl e ↦ passed.second e.0 j e.1 | inr e ↦ (propagate_literal.walked n q h out).second j e ];
       };
 }
   where
@@ -317,7 +326,7 @@ visiting_ends k l place o s v w propagate_literal end = record {
 -- what was noted of the unit clauses holds after visits
 pub visited_done : (o s : SatState) (v w : WatchLists) → Extends o s → s.qhead ≡ o.qhead → o.qhead ≤ length o.tracker.trail → SameWatching v w → AreDone o v → AreDone s w
 visited_done o s v w e qhead low watching done =
-    done_same o s v w watching.units_done watching.assertions watching.learnt (omega arith) (λ k le. before_kept o s k e (omega arith)) done
+    done_same o s v w watching.notes watching.assertions watching.learnt (omega arith) (λ k le. before_kept o s k e (omega arith)) done
 
 -- a clause is falsified
 pub visiting_breaks : (l : Signed) (place n : ℕ) (p : WatchedLiterals) (o s t : SatState) (v w x : WatchLists) → o.qhead < length o.tracker.trail → AreDone o v → IsVisiting o.qhead l place o s v w → pair_at w.watched.items n ≡ Some p → Falsifies n s t w x → Conflicts n o t v x

@@ -1,7 +1,9 @@
--- A new clause is pending until it watches two of its literals.
-use Rattle.std.specs.Prelude.{◌≡◌, ◌≤◌, ◌&&◌, Bool, true, false, not, [], ◌∷◌, ◌++◌, List, length, None}
+-- A new clause watches two of its literals.
+use Rattle.std.specs.Prelude.{◌≡◌, ◌≤◌, ◌&&◌, ◌⊎◌, Bool, true, false, not, [], ◌∷◌, ◌++◌, List, length, Option, Some, None, is_none, IfSome}
 use Rattle.resolvo_pool_core.specs.declared.id.ClauseId.{ClauseId}
-use Rattle.resolvo_store_core.specs.Signed.{Signed}
+use Rattle.resolvo_store_core.specs.Signed.{Signed, same_literal, has}
+use Rattle.resolvo_store_core.specs.Watches.{watchers, StartsIn}
+use Rattle.resolvo_store_core.specs.declared.watched_literals.WatchedLiterals.{WatchedLiterals}
 use Rattle.resolvo_sat.specs.Clauses.{SatClause}
 use Rattle.resolvo_sat.specs.declared.state.SatState.{SatState}
 use Rattle.resolvo_sat.specs.declared.watch_lists.WatchLists.{WatchLists}
@@ -9,33 +11,63 @@ use Rattle.resolvo_sat.specs.declared.watch_lists.UnitClause.{UnitClause}
 use Rattle.resolvo_store_core.specs.Trail.{KeepsSeen}
 use Rattle.resolvo_store_core.specs.declared.decision.Entry.{Entry}
 use Rattle.resolvo_sat.specs.declared.analyze.Learnt.{Learnt}
-use Rattle.resolvo_sat.specs.Entries.{top_level, IsUndone}
+use Rattle.resolvo_sat.specs.Entries.{made_true, top_level, IsUndone}
 use Rattle.resolvo_sat.specs.State.{history}
 use Rattle.resolvo_sat.specs.Steps.{Adds, forced_entry}
-use Rattle.resolvo_sat.specs.Propagation.{HasTwo, IsOnly, IsReady, AreCovered}
+use Rattle.resolvo_sat.specs.Propagation.{IsOnly, IsOwnPair, IsReady, AreCovered}
+use Rattle.resolvo_sat.specs.Pending.{AreOpen}
 
 -- the list, with this item appended where the flag is set
 abbrev pub with_last : {X : Type 0} → Bool → X → List X → List X
 with_last true x xs = xs ++ x ∷ []
 with_last false x xs = xs
 
--- the clause has a literal beside this one, or has this one alone
-abbrev pub HasAnother : List Signed → Signed → Bool → Type 0
-HasAnother clause l true = HasTwo clause
-HasAnother clause l false = IsOnly clause l
+-- both literals, or they are equal
+abbrev pub AreBoth : Signed → Signed → Option WatchedLiterals → Type 0
+AreBoth l m None = l ≡ m
+AreBoth l m (Some p) = (p.first ≡ l) × (p.second ≡ m) × (same_literal l m ≡ false)
 
--- the clause of the next number watches nothing: it is pending, or listed as a unit clause, a rule
--- or a learnt one
-pub record Begins (x : UnitClause) (is_long is_rule : Bool) (old new : WatchLists) : Type 0 where
-  pub watched : new.watched.items ≡ old.watched.items ++ None ∷ []
-  pub watches : new.watches ≡ old.watches
-  pub pending : new.pending.items ≡ with_last is_long x.clause old.pending.items
-  pub assertions : new.assertions.items ≡ with_last (not is_long && is_rule) x old.assertions.items
-  pub learnt : new.learnt.items ≡ with_last (not is_long && not is_rule) x old.learnt.items
+-- the literal, or the one that there was
+abbrev pub IsEither : Option Signed → Signed → Signed → Type 0
+IsEither None l m = m ≡ l
+IsEither (Some k) l m = (m ≡ l) ⊎ (m ≡ k)
+
+-- a literal of the clause beside this one; or all are this one
+abbrev pub IsBeside : List Signed → Signed → Option Signed → Type 0
+IsBeside clause l None = (m : Signed) → has clause m ≡ true → m ≡ l
+IsBeside clause l (Some m) = (has clause m ≡ true) × (same_literal l m ≡ false)
+
+-- the same of the first ones of the literals
+abbrev pub IsBesideSoFar : List Signed → List Signed → Signed → Option Signed → Type 0
+IsBesideSoFar clause part l None = (m : Signed) → has part m ≡ true → m ≡ l
+IsBesideSoFar clause part l (Some m) = (has clause m ≡ true) × (same_literal l m ≡ false)
+
+-- two different literals of the clause; or it has this one alone
+abbrev pub AreFirst : List Signed → Signed → Option WatchedLiterals → Type 0
+AreFirst clause l None = IsOnly clause l
+AreFirst clause l (Some p) = IsOwnPair clause p × (same_literal p.first p.second ≡ false)
+
+-- the clause is first in the lists of the two that it watches
+abbrev pub BeginsIn : ClauseId → Option WatchedLiterals → WatchLists → WatchLists → Type 0
+BeginsIn c None old new = new.watches ≡ old.watches
+BeginsIn c (Some p) old new = StartsIn c p (watchers old.watches) (watchers new.watches)
+
+-- the clause of the next number watches the two; or it is listed as a unit clause, a rule or a learnt one
+pub record Begins (x : UnitClause) (o : Option WatchedLiterals) (is_rule : Bool) (old new : WatchLists) : Type 0 where
+  pub watched : new.watched.items ≡ old.watched.items ++ o ∷ []
+  pub watches : BeginsIn x.clause o old new
+  pub pending : new.pending ≡ old.pending
+  pub assertions : new.assertions.items ≡ with_last (is_none o && is_rule) x old.assertions.items
+  pub learnt : new.learnt.items ≡ with_last (is_none o && not is_rule) x old.learnt.items
   pub units_done : new.units_done ≡ old.units_done
 
+-- the clause is pending, unless neither of the two that it watches is false
+pub record NotesPending (c : ClauseId) (o : Option WatchedLiterals) (s : SatState) (v w : WatchLists) : Type 0 where
+  pub rest : w ≡ record v { pending = w.pending }
+  pub listed : ((w.pending ≡ v.pending) × IfSome o (AreOpen (made_true (history s)))) ⊎ (w.pending.items ≡ v.pending.items ++ c ∷ [])
+
 -- the clause was appended, and the watch lists list it
-pub record AddsPending (c : SatClause) (id : ClauseId) (old : SatState) (v : WatchLists) (new : SatState) (w : WatchLists) : Type 0 where
+pub record AddsClause (c : SatClause) (id : ClauseId) (old : SatState) (v : WatchLists) (new : SatState) (w : WatchLists) : Type 0 where
   pub adds : Adds c id old new
   pub ready : IsReady new w
   pub covered : AreCovered new w

@@ -7,7 +7,7 @@ pub mod Marks
 pub mod Analysis
 pub mod Steps
 pub mod Propagation
-pub mod Attach
+pub mod Pending
 pub mod AddClause
 pub mod UnitsDone
 pub mod Begin

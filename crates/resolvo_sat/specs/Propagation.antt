@@ -36,23 +36,15 @@ abbrev pub AreUnits : List (List Signed) → List UnitClause → Type 0
 AreUnits clauses [] = Unit {0}
 AreUnits clauses (x ∷ xs) = (x.clause.0 < length clauses) × IsOnly (clause_at clauses x.clause.0) x.literal × AreUnits clauses xs
 
--- the clause has two different literals
-abbrev pub HasTwo : List Signed → Type 0
-HasTwo clause = (l : Signed) × (m : Signed) × (has clause l ≡ true) × (has clause m ≡ true) × (same_literal l m ≡ false)
-
--- the clause was added, and is still to watch two of its literals
+-- the clause was added beside a false literal, and is still to be visited
 abbrev pub IsPending : ℕ → WatchLists → Type 0
 IsPending n w = 0 < count n w.pending.items
 
--- the watches fit the clauses, whatever is true or false: a clause that watches something watches its own literals; a clause
--- that waits watches nothing, has two different literals, and waits once
+-- the watches fit the clauses, whatever is true or false: a clause that watches something watches its own literals
 pub record IsFit (s : SatState) (w : WatchLists) : Type 0 where
   pub fit : IsWatched w.watched.items (watchers w.watches)
   pub each : length w.watched.items ≡ length s.clauses
   pub own : (n : ℕ) (p : WatchedLiterals) → pair_at w.watched.items n ≡ Some p → IsOwnPair (clause_at (clauses_of s) n) p
-  pub unwatched : (n : ℕ) → IsPending n w → pair_at w.watched.items n ≡ None
-  pub two : (n : ℕ) → IsPending n w → HasTwo (clause_at (clauses_of s) n)
-  pub once : (n : ℕ) → count n w.pending.items ≤ 1
 
 -- where one of the two is false by the first literals, the other one is true
 pub record Guards (fallen known : List Signed) (p : WatchedLiterals) : Type 0 where
@@ -68,10 +60,10 @@ pub record GuardsTo (g : ℕ) (fallen all : List Entry) (p : WatchedLiterals) : 
   pub first : (k : ℕ) → IsTrueAt fallen (negation p.first) k → IsGuard g k all p.second
   pub second : (k : ℕ) → IsTrueAt fallen (negation p.second) k → IsGuard g k all p.first
 
--- the first k entries of the trail were walked: in each clause where one of the two watched literals
--- is false by them, the other one is true and guards it
+-- the first k entries of the trail were walked: in each clause that isn't pending, where one of the two watched literals is
+-- false by them, the other one is true and guards it
 abbrev pub IsWalkedTo : ℕ → SatState → WatchLists → Type 0
-IsWalkedTo k s w = (n : ℕ) (p : WatchedLiterals) → pair_at w.watched.items n ≡ Some p → GuardsTo s.guard_level (before s.tracker.trail k) (history s) p
+IsWalkedTo k s w = (n : ℕ) (p : WatchedLiterals) → pair_at w.watched.items n ≡ Some p → (IsPending n w → ⊥) → GuardsTo s.guard_level (before s.tracker.trail k) (history s) p
 
 -- the level of a true literal beside a false one is among the guards' levels now
 pub record RecordsGuard (l m : Signed) (old new : SatState) : Type 0 where
@@ -121,23 +113,25 @@ pub record IsReady (s : SatState) (w : WatchLists) : Type 0 where
 abbrev pub IsUnit : ℕ → WatchLists → Type 0
 IsUnit n w = (x : UnitClause) × (x.clause.0 ≡ n) × (HasUnit w.assertions.items x ⊎ HasUnit w.learnt.items x)
 
--- a clause that watches nothing is the root's, which is the first, or is listed as a unit clause,
--- or is pending
+-- a clause that watches nothing is the root's, which is the first, or is listed as a unit clause
 pub record AreCovered (s : SatState) (w : WatchLists) : Type 0 where
   pub assertions : AreUnits (clauses_of s) w.assertions.items
   pub learnt : AreUnits (clauses_of s) w.learnt.items
-  pub covered : (n : ℕ) → n < length s.clauses → pair_at w.watched.items n ≡ None → (n ≡ 0) ⊎ (IsUnit n w ⊎ IsPending n w)
+  pub covered : (n : ℕ) → n < length s.clauses → pair_at w.watched.items n ≡ None → (n ≡ 0) ⊎ IsUnit n w
   pub first : has (clause_at (clauses_of s) 0) (yes root) ≡ true
 
--- No clause stopped watching, and none was added. What was pending is so still or watches, and the unit clauses
--- are the same, with what is noted of them.
+-- each note of the one was there
+abbrev pub KeepsNotes : WatchLists → WatchLists → Type 0
+KeepsNotes v w = (i : ℕ) (d : UnitsDone) → slice_get w.units_done.items i ≡ Some d → slice_get v.units_done.items i ≡ Some d
+
+-- No clause stopped watching, and none was added. What is pending was so, the unit clauses are the same, and nothing more is
+-- noted of them.
 pub record SameWatching (v w : WatchLists) : Type 0 where
   pub assertions : w.assertions ≡ v.assertions
   pub learnt : w.learnt ≡ v.learnt
-  pub units_done : w.units_done ≡ v.units_done
+  pub notes : KeepsNotes v w
   pub pairs : (n : ℕ) → pair_at w.watched.items n ≡ None → pair_at v.watched.items n ≡ None
   pub was_pending : (n : ℕ) → IsPending n w → IsPending n v
-  pub stays_pending : (n : ℕ) → IsPending n v → pair_at w.watched.items n ≡ None → IsPending n w
 
 -- where one of the two is this literal, which is false, the other one guards it
 pub record Passed (l : Signed) (g : ℕ) (all : List Entry) (p : WatchedLiterals) : Type 0 where
@@ -226,7 +220,7 @@ pub record IsComplete (old new : SatState) (v w : WatchLists) : Type 0 where
   pub ready : IsReady new w
   pub extends : Extends old new
   pub qhead : new.qhead ≡ length new.tracker.trail
-  pub attached : (n : ℕ) → IsPending n w → ⊥
+  pub settled : (n : ℕ) → IsPending n w → ⊥
   pub quiet : (n : ℕ) → n < length new.clauses → IsQuiet (made_true (history new)) (clause_at (clauses_of new) n)
 
 -- propagation ended in a conflict: the clause is falsified
@@ -265,15 +259,15 @@ pub record FellAt (l : Signed) (place : ℕ) (s : SatState) : Type 0 where
   pub in_range : place < length s.tracker.trail
   pub entry : made_true (before s.tracker.trail (place + 1)) ≡ negation l ∷ made_true (before s.tracker.trail place)
 
--- the literal that the entry at the propagation head makes false; or there is no entry there
-abbrev pub IsNextFallen : SatState → Option Signed → Type 0
-IsNextFallen s None = length s.tracker.trail ≤ s.qhead
-IsNextFallen s (Some l) = FellAt l s.qhead s
+-- the literal that the entry of this place makes false; or there is no entry there
+abbrev pub IsFallenAt : ℕ → SatState → Option Signed → Type 0
+IsFallenAt place s None = length s.tracker.trail ≤ place
+IsFallenAt place s (Some l) = FellAt l place s
 
 -- all entries before this one are propagated, and no clause is pending
 pub record Running (old s : SatState) (v w : WatchLists) : Type 0 where
   pub watching : SameWatching v w
-  pub attached : (n : ℕ) → IsPending n w → ⊥
+  pub settled : (n : ℕ) → IsPending n w → ⊥
   pub fits : IsFit s w
   pub extends : Extends old s
   pub walked : IsWalkedTo s.qhead s w

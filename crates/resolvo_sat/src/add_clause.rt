@@ -1,24 +1,26 @@
-//! Adds a clause, which is pending until it watches two of its literals.
-ghost use Rattle.std.specs.Prelude.{◌≡◌, ◌<◌, ◌++◌, ◌∷◌, [], length, true, not, IfOk, IsErrOf, IsOkUnless};
+//! Adds a clause. It watches two of its literals at once, at the front of their lists. One that
+//! watches a false literal is pending: the next propagation visits it first.
+ghost use Rattle.std.specs.Prelude.{◌≡◌, ◌<◌, length, true, false, not, IfOk, IfSome, IsErrOf, IsOkUnless};
 ghost use Rattle.resolvo_pool_core.specs.declared.want.Want.TheVariants.{Memory, Ids};
-ghost use Rattle.resolvo_store_core.specs.Signed.{has};
+ghost use Rattle.resolvo_store_core.specs.Signed.{same_literal, has};
 ghost use Rattle.resolvo_sat.specs.Clauses.{sat_clause};
-ghost use Rattle.resolvo_sat.specs.State.{IsState, IsDerived, clauses_of, count_of};
+ghost use Rattle.resolvo_sat.specs.Entries.{made_true};
+ghost use Rattle.resolvo_sat.specs.State.{IsState, IsDerived, history, clauses_of, count_of};
 ghost use Rattle.resolvo_sat.specs.Steps.{AreInRange};
 ghost use Rattle.resolvo_sat.specs.Propagation.{IsReady, AreCovered};
-ghost use Rattle.resolvo_sat.specs.AddClause.{HasAnother, with_last, Begins, AddsPending};
+ghost use Rattle.resolvo_sat.specs.Pending.{AreOpen};
+ghost use Rattle.resolvo_sat.specs.AddClause.{IsEither, AreBoth, IsBeside, AreFirst, with_last, Begins, NotesPending, AddsClause};
 
 use crate::state::SatState;
-use crate::watch_lists::{Start, UnitClause, WatchLists};
+use crate::watch_lists::{UnitClause, WatchLists};
 use resolvo_pool_core::id::ClauseId;
 use resolvo_pool_core::want::R;
 use resolvo_store_core::literal::Literal;
 use resolvo_store_core::watched_literals::WatchedLiterals;
 
 impl SatState {
-    /// Adds a clause: a rule, or one that follows from its antecedents. It is pending until
-    /// propagation lets it watch two of its literals. A unit clause is listed as such, and watches
-    /// nothing.
+    /// Adds a clause: a rule, or one that follows from its antecedents. It watches two of its
+    /// literals. A unit clause is listed as such, and watches nothing.
     pub fn add_clause(
         &mut self,
         watching: &mut WatchLists,
@@ -33,121 +35,153 @@ impl SatState {
         requires some { 0 < length literals.now }
         // After an answer.
         ensures added { IfOk result
-            (λ id. AddsPending (sat_clause literals.now causes.now) id self.old watching.old self.new
+            (λ id. AddsClause (sat_clause literals.now causes.now) id self.old watching.old self.new
             watching.new) }
         // After a refusal.
         ensures ids { IsErrOf result Ids → length self.old.clauses ≡ 4294967295 }
         ensures full { IsErrOf result Ids → length self.new.clauses ≡ 4294967295 }
     {
         let literal = literals[0];
-        let is_long = has_another(literals, literal);
         let is_rule = causes.is_empty();
-        let start = self.first_watches(watching, literals, is_rule);
+        let watched = self.first_watches(watching, literals, literal, is_rule);
         let clause = self.push_clause(literals, causes)?;
-        watching.begin(UnitClause { clause, literal }, start, is_long, is_rule)?;
+        self.note_pending(watching, clause, &watched)?;
+        watching.begin(UnitClause { clause, literal }, watched, is_rule)?;
         Ok(clause)
     }
 
-    /// The literals that a new clause of more than two is to watch. It is its first one, and beside
-    /// it the first that is not false, or else the next one. A learnt clause is to watch its first
-    /// and its last literal.
+    /// The literals that a new clause watches: this one, which is its first one, and one beside it.
+    /// There are none where it has this one alone.
+    #[inline(always)]
     fn first_watches(
         &self,
         watching: &WatchLists,
         literals: &[Literal],
+        first: Literal,
         is_rule: bool,
     ) -> Option<WatchedLiterals>
-        requires { IsState self.now }
+        requires state { IsState self.now }
+        requires present { has literals.now first ≡ true }
+        ensures { AreFirst literals.now first result }
     {
-        if literals.len() < 3 {
-            return None;
+        if let [one, other] = literals {
+            return two(*one, *other);
         }
-        let first = literals[0];
-        let mut second = first;
+        match self.second_watch(watching, literals, first, is_rule) {
+            Some(second) => Some(WatchedLiterals { first, second }),
+            None => None,
+        }
+    }
+
+    /// The literal that a new clause watches beside its first one: the first other one that isn't
+    /// false, or else the first other one. Of a learnt clause it is the last one.
+    fn second_watch(
+        &self,
+        watching: &WatchLists,
+        literals: &[Literal],
+        first: Literal,
+        is_rule: bool,
+    ) -> Option<Literal>
+        requires { IsState self.now }
+        ensures { IsBeside literals.now first result }
+    {
+        let mut second = None;
         for literal in literals {
             if *literal != first {
-                if is_rule && !self.is_false_with_new(watching, *literal) {
-                    return Some(WatchedLiterals {
-                        first,
-                        second: *literal,
-                    });
+                if self.is_second(watching, *literal, is_rule) {
+                    return Some(*literal);
                 }
-                if second == first || !is_rule {
-                    second = *literal;
-                }
+                second = Some(first_or_last(second, *literal, is_rule));
             }
         }
+        second
+    }
+
+    /// Whether a new clause watches this other literal, whatever comes behind it.
+    fn is_second(&self, watching: &WatchLists, literal: Literal, is_rule: bool) -> bool
+        requires { IsState self.now }
+    {
+        is_rule && !self.is_false_with_new(watching, literal)
+    }
+
+    /// Lists a new clause as pending, where a literal that it watches is false.
+    #[inline(always)]
+    fn note_pending(
+        &self,
+        watching: &mut WatchLists,
+        clause: ClauseId,
+        watched: &Option<WatchedLiterals>,
+    ) -> R<()>
+        requires { IsState self.now }
+        ensures noted { IfOk result
+            (λ _. NotesPending clause watched.now self.now watching.old watching.new) }
+        ensures refusal { IsOkUnless result Memory }
+    {
+        let Some(watched) = watched else {
+            return Ok(());
+        };
+        if self.are_open(watched) {
+            return Ok(());
+        }
+        watching.pending.push(clause)?;
+        Ok(())
+    }
+
+    /// Whether neither of two literals is false.
+    #[inline(always)]
+    pub(crate) fn are_open(&self, watched: &WatchedLiterals) -> bool
+        requires { IsState self.now }
+        ensures { result ≡ true → AreOpen (made_true (history self.now)) watched.now }
+    {
+        if self.is_false(watched.first) {
+            return false;
+        }
+        if self.is_false(watched.second) {
+            return false;
+        }
+        true
+    }
+}
+
+/// Both literals, unless they are equal.
+#[inline(always)]
+fn two(first: Literal, second: Literal) -> Option<WatchedLiterals>
+    ensures { AreBoth first second result }
+{
+    if first == second {
+        None
+    } else {
         Some(WatchedLiterals { first, second })
     }
 }
 
-/// Whether a clause has a literal other than this one of its literals.
-#[inline(always)]
-fn has_another(literals: &[Literal], first: Literal) -> bool
-    requires { has literals.now first ≡ true }
-    ensures { HasAnother literals.now first result }
+/// Of a literal and what was found before it: the first one, or of a learnt clause the last one.
+fn first_or_last(found: Option<Literal>, literal: Literal, is_rule: bool) -> Literal
+    ensures { IsEither found literal result }
 {
-    if let [one, other] = literals {
-        return *one != *other;
+    match found {
+        Some(other) => { if is_rule { other } else { literal } }
+        None => literal,
     }
-    for literal in literals {
-        if *literal != first {
-            return true;
-        }
-    }
-    false
 }
 
 impl WatchLists {
-    /// Lists a new clause: as pending, or as the unit clause of this literal.
+    /// Lists a new clause in the lists of the two literals that it watches, or as the unit clause of
+    /// this literal.
     #[inline(always)]
-    fn begin(
-        &mut self,
-        unit: UnitClause,
-        start: Option<WatchedLiterals>,
-        is_long: bool,
-        is_rule: bool,
-    ) -> R<()>
-        ensures begun { IfOk result (λ _. Begins unit is_long is_rule self.old self.new) }
+    fn begin(&mut self, unit: UnitClause, watched: Option<WatchedLiterals>, is_rule: bool) -> R<()>
+        requires differ { IfSome watched (λ p. same_literal p.first p.second ≡ false) }
+        ensures begun { IfOk result (λ _. Begins unit watched is_rule self.old self.new) }
         ensures refusal { IsOkUnless result Memory }
     {
-        if is_long {
-            self.add_pending(unit.clause, start, is_rule)?;
-        } else {
-            self.add_unit(unit, is_rule)?;
+        if let Some(WatchedLiterals { first, second }) = watched {
+            self.watches
+                .start_watching(WatchedLiterals { first, second }, unit.clause)?;
+            self.watched.push(Some(WatchedLiterals { first, second }))?;
+            return Ok(());
         }
+        self.add_unit(unit, is_rule)?;
         self.watched.push(None)?;
-        Ok(())
-    }
-
-    /// Lists a pending clause, and what it is to watch. With the first one the list of those to
-    /// visit begins anew. A learnt clause is to be visited.
-    #[inline(always)]
-    fn add_pending(
-        &mut self,
-        clause: ClauseId,
-        start: Option<WatchedLiterals>,
-        is_rule: bool,
-    ) -> R<()>
-        ensures pending { IfOk result
-            (λ _. self.new.pending.items ≡ self.old.pending.items ++ clause ∷ []) }
-        ensures others { (self.new.watched ≡ self.old.watched)
-            × (self.new.watches ≡ self.old.watches)
-            × (self.new.units_done ≡ self.old.units_done)
-            × (self.new.assertions ≡ self.old.assertions)
-            × (self.new.learnt ≡ self.old.learnt) }
-        ensures refusal { IsOkUnless result Memory }
-    {
-        if self.pending.is_empty() {
-            self.due.clear();
-        }
-        self.pending.push(clause)?;
-        if let Some(watched) = start {
-            self.starts.push(Start { clause, watched })?;
-        }
-        if !is_rule {
-            self.note_due(clause)?;
-        }
         Ok(())
     }
 

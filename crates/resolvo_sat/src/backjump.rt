@@ -13,8 +13,7 @@ use resolvo_pool_core::id::ClauseId;
 use resolvo_pool_core::want::R;
 
 impl SatState {
-    /// Jumps to the level of a learnt clause, adds the clause as pending, and assigns its asserting
-    /// literal.
+    /// Jumps to the level of a learnt clause, adds the clause, and assigns its asserting literal.
     pub fn learn(&mut self, watching: &mut WatchLists, learnt: Learnt) -> R<ClauseId>
         requires ready { IsReady self.old watching.old }
         requires covered { AreCovered self.old watching.old }

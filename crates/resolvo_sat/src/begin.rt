@@ -54,8 +54,6 @@ pub fn begin(alloc: Global) -> R<(SatState, WatchLists)>
         learnt: Vec::new(alloc),
         units_done: Vec::new(alloc),
         pending: Vec::new(alloc),
-        starts: Vec::new(alloc),
-        due: Vec::new(alloc),
         places: Vec::new(alloc),
         passed: Vec::new(alloc),
         at_once: Vec::new(alloc),

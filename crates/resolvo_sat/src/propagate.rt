@@ -1,6 +1,6 @@
 //! Unit propagation over the trail. It continues at the propagation head, `qhead`. In each clause
 //! with a watched literal that became false before the head, the other watched literal is true.
-//! Clauses that were added since are pending until it runs.
+//! Clauses that were added beside a false literal are pending: they are visited first.
 ghost use Rattle.std.specs.Prelude.{◌≡◌, ◌<◌, ◌≤◌, ◌+◌, slice_get, take, length, Some, true, IfOk, IsOkUnless};
 ghost use Rattle.resolvo_pool_core.specs.declared.want.Want.TheVariants.{Memory};
 ghost use Rattle.resolvo_store_core.specs.Signed.{negation, has};
@@ -8,8 +8,8 @@ ghost use Rattle.resolvo_store_core.specs.Watches.{watchers, pair_at, IsAt};
 ghost use Rattle.resolvo_sat.specs.Known.{clause_at};
 ghost use Rattle.resolvo_sat.specs.Entries.{made_true};
 ghost use Rattle.resolvo_sat.specs.State.{IsState, history, clauses_of};
-ghost use Rattle.resolvo_sat.specs.Attach.{KeepsLists};
-ghost use Rattle.resolvo_sat.specs.Propagation.{IsReady, IsFit, AreCovered, AreUnits, AllTrue, AreDone, AreWithin, HasDone, IsFree, FellAt, IsMeeting, IsVisit, IsWalkedTo, IsOnly, IsUnitAssigned, IsUnitsEnd, IsNextFallen, IsRun, IsPropagation};
+ghost use Rattle.resolvo_sat.specs.Pending.{KeepsLists};
+ghost use Rattle.resolvo_sat.specs.Propagation.{IsReady, IsFit, AreCovered, AreUnits, AllTrue, AreDone, AreWithin, HasDone, IsFree, FellAt, IsFallenAt, IsMeeting, IsVisit, IsWalkedTo, IsOnly, IsUnitAssigned, IsUnitsEnd, IsRun, IsPropagation};
 
 use crate::state::SatState;
 use crate::watch_lists::{UnitClause, UnitsDone, WatchLists};
@@ -99,7 +99,8 @@ impl SatState {
     }
 
     /// Visits the clause at a cursor, one of whose watched literals became false.
-    fn visit_clause(
+    #[inline(always)]
+    pub(crate) fn visit_clause(
         &mut self,
         watching: &mut WatchLists,
         cursor: &mut WatchMapCursor,
@@ -225,16 +226,24 @@ impl SatState {
         Ok(falsified)
     }
 
-    /// The literal that the entry at the propagation head makes false; none after the last entry.
-    fn next_falsified(&self) -> Option<Literal>
+    /// The literal that the entry of a place makes false; none after the last entry.
+    pub(crate) fn falsified_at(&self, place: usize) -> Option<Literal>
         requires state { IsState self.now }
-        ensures { IsNextFallen self.now result }
+        ensures { IsFallenAt place self.now result }
     {
-        if self.qhead >= self.tracker.stack().len() {
+        if place >= self.tracker.stack().len() {
             return None;
         }
-        let decision = self.entry(self.qhead).decision;
+        let decision = self.entry(place).decision;
         Some(Literal::new(decision.variable, decision.value))
+    }
+
+    /// The literal that the entry at the propagation head makes false.
+    fn next_falsified(&self) -> Option<Literal>
+        requires state { IsState self.now }
+        ensures { IsFallenAt self.now.qhead self.now result }
+    {
+        self.falsified_at(self.qhead)
     }
 
     /// Advances the propagation head past its entry, which was propagated.
@@ -307,9 +316,10 @@ impl SatState {
         if let Some(clause) = self.assign_units_from(watching.learnt.as_slice(), done.learnt)? {
             return Ok(Some(clause));
         }
-        if let Some(clause) = self.attach_pending(watching)? {
+        if let Some(clause) = self.visit_pending(watching)? {
             return Ok(Some(clause));
         }
+        self.settle_pending(watching);
         while let Some(literal) = self.next_falsified() {
             if let Some(clause) = self.propagate_literal(watching, literal)? {
                 return Ok(Some(clause));

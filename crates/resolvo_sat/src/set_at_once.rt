@@ -2,11 +2,14 @@
 //! but one without value. It is then set by the clause, at the trail's end and the top level. Such
 //! entries are noted, and made as the next propagation begins. Until then no other entry is made.
 //! By the rules a new clause is added where the noted ones are made, so values are read with them.
-ghost use Rattle.std.specs.Prelude.{◌≡◌, ◌<◌, length, IfOk, IfSome, IsOkUnless};
+ghost use Rattle.std.specs.Prelude.{◌≡◌, ◌<◌, length, None, IfOk, IfSome, IsOkUnless};
 ghost use Rattle.resolvo_pool_core.specs.declared.want.Want.TheVariants.{Memory};
-ghost use Rattle.resolvo_sat.specs.State.{IsState};
-ghost use Rattle.resolvo_sat.specs.Propagation.{IsReady, Extends};
-ghost use Rattle.resolvo_sat.specs.Attach.{Attaches, KeepsLists};
+ghost use Rattle.resolvo_store_core.specs.Signed.{has};
+ghost use Rattle.resolvo_sat.specs.Known.{clause_at};
+ghost use Rattle.resolvo_sat.specs.Entries.{made_true};
+ghost use Rattle.resolvo_sat.specs.State.{IsState, history, clauses_of};
+ghost use Rattle.resolvo_sat.specs.Propagation.{IsReady, IsFree, Extends};
+ghost use Rattle.resolvo_sat.specs.Pending.{AreFalseBut, Proceeds, KeepsLists};
 
 use crate::state::SatState;
 use crate::watch_lists::{Start, WatchLists};
@@ -16,8 +19,8 @@ use resolvo_store_core::literal::Literal;
 use resolvo_store_core::watched_literals::WatchedLiterals;
 
 impl SatState {
-    /// Notes where a new rule is falsified as it is added. Or where it sets a literal, if its kind
-    /// does so. And that it may have to be visited, where a literal is false.
+    /// Notes where a new rule is falsified as it is added, or where it sets a literal, if its kind does
+    /// so.
     #[inline(always)]
     pub fn note_rule(
         &self,
@@ -33,12 +36,10 @@ impl SatState {
         if watching.at_once.is_empty() && self.are_two_open(literals) {
             return Ok(());
         }
-        watching.note_due(clause)?;
         self.note_closed(watching, clause, literals, sets_at_once)
     }
 
-    /// Whether the first two literals differ, and neither is false. Such a clause sets nothing, and
-    /// is to watch these two.
+    /// Whether the first two literals differ, and neither is false. Such a clause sets nothing.
     #[inline(always)]
     fn are_two_open(&self, literals: &[Literal]) -> bool
         requires { IsState self.now }
@@ -126,7 +127,7 @@ impl SatState {
     /// Sets what is noted that new clauses set at once, in their order.
     pub(crate) fn set_at_once(&mut self, watching: &mut WatchLists) -> R<()>
         requires { IsReady self.old watching.old }
-        ensures attaches { IfOk result (λ _. Attaches self.old self.new watching.old watching.new) }
+        ensures proceeds { IfOk result (λ _. Proceeds self.old self.new watching.old watching.new) }
         ensures refusal { IsOkUnless result Memory }
     {
         for start in &watching.at_once {
@@ -143,12 +144,67 @@ impl SatState {
         ensures qhead { IfOk result (λ _. self.new.qhead ≡ self.old.qhead) }
         ensures refusal { IsOkUnless result Memory }
     {
-        if start.clause.to_index() >= self.clauses.len() {
+        let Start { clause, watched } = start;
+        if clause.to_index() >= self.clauses.len() {
             return Ok(());
         }
-        self.visit_start(start.clause, &start.watched, start.watched.second)?;
+        if self.is_true(watched.first) {
+            return Ok(());
+        }
+        match self.free_literal(clause, &watched, 0) {
+            Some(_) => Ok(()),
+            None => self.force_one(clause, &watched),
+        }
+    }
+
+    /// Assigns the one of two literals that isn't false, where all others of the clause are.
+    fn force_one(&mut self, clause: ClauseId, watched: &WatchedLiterals) -> R<()>
+        requires state { IsState self.old }
+        requires in_range { clause.0 < length self.old.clauses }
+        requires alone { IsFree (made_true (history self.old)) (clause_at (clauses_of self.old) clause.0)
+            watched.now None }
+        ensures extends { IfOk result (λ _. Extends self.old self.new) }
+        ensures qhead { IfOk result (λ _. self.new.qhead ≡ self.old.qhead) }
+        ensures refusal { IsOkUnless result Memory }
+    {
+        if self.is_false(watched.second) {
+            return self.force(clause, watched.first);
+        }
+        if self.is_false(watched.first) {
+            return self.force(clause, watched.second);
+        }
         Ok(())
     }
+
+    /// Assigns a literal of a clause of which all others are false, unless it has a value.
+    fn force(&mut self, clause: ClauseId, literal: Literal) -> R<()>
+        requires state { IsState self.old }
+        requires in_range { clause.0 < length self.old.clauses }
+        requires others { AreFalseBut literal (made_true (history self.old))
+            (clause_at (clauses_of self.old) clause.0) }
+        ensures extends { IfOk result (λ _. Extends self.old self.new) }
+        ensures qhead { IfOk result (λ _. self.new.qhead ≡ self.old.qhead) }
+        ensures refusal { IsOkUnless result Memory }
+    {
+        if self.is_false(literal) {
+            return Ok(());
+        }
+        if self.is_true(literal) {
+            return Ok(());
+        }
+        if !is_among(self.literals(clause), literal) {
+            return Ok(());
+        }
+        self.assign(clause, literal)?;
+        Ok(())
+    }
+}
+
+/// Whether a literal is among these.
+fn is_among(literals: &[Literal], literal: Literal) -> bool
+    ensures { result ≡ has literals.now literal }
+{
+    literals.iter().any(|other| *other == literal)
 }
 
 impl WatchLists {

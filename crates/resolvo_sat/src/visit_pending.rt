@@ -1,50 +1,26 @@
-//! Visits to the pending clauses. By the rules a new clause watches two of its literals at once, at
-//! the front of their lists. Propagation then begins anew at the front of the trail. Over what was
-//! propagated before, that walk changes something at new clauses alone. So only these are visited,
-//! in the order in which that walk would meet them. A clause that has two literals to watch that
-//! aren't false as it is added is never met there: they become false behind the propagation head.
-ghost use Rattle.std.specs.Prelude.{◌≡◌, ◌<◌, length, slice_get, true, None, IfOk, IfSome, IsOkUnless};
+//! Visits to the pending clauses. By the rules propagation begins anew at the trail's front where a
+//! clause was added. Over what was propagated before, that walk changes something at pending clauses
+//! alone. While a literal is false, only new clauses come to its list, at its front. So the walk is
+//! made at those entries alone that make a watch of a pending clause false, in their order. There it
+//! goes over the front of the list. Which entries these are is a hint, as no proof rests on places.
+ghost use Rattle.std.specs.Prelude.{◌≡◌, true, IfOk, IsOkUnless};
 ghost use Rattle.resolvo_pool_core.specs.declared.want.Want.TheVariants.{Memory};
-ghost use Rattle.resolvo_sat.specs.Known.{clause_at};
+ghost use Rattle.resolvo_store_core.specs.Signed.{negation, has};
 ghost use Rattle.resolvo_sat.specs.Entries.{made_true};
-ghost use Rattle.resolvo_sat.specs.State.{IsState, history, clauses_of};
-ghost use Rattle.resolvo_sat.specs.Propagation.{IsReady, IsFree};
-ghost use Rattle.resolvo_sat.specs.Attach.{AreFalseBut, IsStartVisit, IsPendingVisit, Attaches, KeepsLists};
+ghost use Rattle.resolvo_sat.specs.State.{IsState, history};
+ghost use Rattle.resolvo_sat.specs.Propagation.{IsReady};
+ghost use Rattle.resolvo_sat.specs.Pending.{IsPendingVisit, Proceeds, KeepsLists};
 
-use crate::attach::is_among;
+use crate::propagate::WatchVisit;
 use crate::state::SatState;
-use crate::watch_lists::{Due, WatchLists, small};
+use crate::watch_lists::{WatchLists, small};
 use resolvo_pool_core::id::{ClauseId, DenseIndex, VariableId};
 use resolvo_pool_core::want::R;
 use resolvo_store_core::literal::Literal;
-use resolvo_store_core::watched_literals::WatchedLiterals;
-
-/// A visit to a pending clause, at the place of the trail at which a literal became false that it
-/// is to watch. Visits are in the order of places, and at one place from the newest clause on.
-#[derive(Clone, Copy, Debug, PartialEq, Eq, PartialOrd, Ord)]
-struct Visit {
-    place: usize,
-    /// How many pending clauses there are from this one on.
-    from_end: usize,
-    is_second: bool,
-    /// Where it is noted what the clause is to watch, if it has more than two literals.
-    start: usize,
-}
-
-/// The outcome of a visit.
-#[derive(Clone, Copy, Debug)]
-pub enum StartVisit {
-    /// The clause is to watch the same literals.
-    Kept,
-    /// It is to watch this one in place of the false one.
-    Moved(Literal),
-    /// All its literals are false.
-    Falsified,
-}
 
 impl SatState {
-    /// Visits the pending clauses where literals that they are to watch became false before the
-    /// propagation head. Assigns what they force; or returns one of them that is falsified.
+    /// Visits the pending clauses where literals that they watch became false before the propagation
+    /// head. Assigns what they force; or returns one of them that is falsified.
     pub(crate) fn visit_pending(&mut self, watching: &mut WatchLists) -> R<Option<ClauseId>>
         requires ready { IsReady self.old watching.old }
         ensures visited { IfOk result (IsPendingVisit self.old self.new watching.old watching.new) }
@@ -53,10 +29,11 @@ impl SatState {
         if watching.pending.is_empty() {
             return Ok(None);
         }
+        let first = watching.pending[0];
         self.index_trail(watching)?;
-        let visits = self.visits(watching)?;
-        for visit in &visits {
-            if let Some(clause) = self.make_visit(watching, *visit)? {
+        let places = self.due_places(watching)?;
+        for place in &places {
+            if let Some(clause) = self.visit_place(watching, *place, first)? {
                 return Ok(Some(clause));
             }
         }
@@ -67,7 +44,7 @@ impl SatState {
     /// Notes the places of the trail's entries behind those that were noted.
     fn index_trail(&mut self, watching: &mut WatchLists) -> R<()>
         requires ready { IsReady self.old watching.old }
-        ensures attaches { IfOk result (λ _. Attaches self.old self.new watching.old watching.new) }
+        ensures proceeds { IfOk result (λ _. Proceeds self.old self.new watching.old watching.new) }
         ensures refusal { IsOkUnless result Memory }
     {
         let trail = self.tracker.stack();
@@ -78,184 +55,94 @@ impl SatState {
         Ok(())
     }
 
-    /// The visits that are due, in order.
-    fn visits(&self, watching: &WatchLists) -> R<Vec<Visit>>
-        requires { IsReady self.now watching.now }
+    /// The places before the propagation head at which watches of the pending clauses became false, in
+    /// rising order, each once.
+    fn due_places(&self, watching: &WatchLists) -> R<Vec<usize>>
+        requires { IsState self.now }
         ensures refusal { IsOkUnless result Memory }
     {
-        let mut visits = Vec::new(*watching.pending.allocator());
-        for due in &watching.due {
-            if let Some(clause) = watching.pending_at(due.index) {
-                if clause == due.clause {
-                    self.push_visits(watching, &mut visits, clause, *due)?;
-                }
+        let mut places = Vec::new(*watching.pending.allocator());
+        for clause in &watching.pending {
+            if let Some(watched) = watching.pair_of(*clause) {
+                self.push_place(watching, &mut places, watched.first)?;
+                self.push_place(watching, &mut places, watched.second)?;
             }
         }
-        visits.sort()?;
-        Ok(visits)
+        places.sort_unstable();
+        places.dedup();
+        Ok(places)
     }
 
-    /// Adds the visits of a pending clause that are due.
-    fn push_visits(
-        &self,
-        watching: &WatchLists,
-        visits: &mut Vec<Visit>,
-        clause: ClauseId,
-        due: Due,
-    ) -> R<()>
-        requires state { IsState self.now }
-        requires in_range { clause.0 < length self.now.clauses }
-        ensures refusal { IsOkUnless result Memory }
-    {
-        let Some(pair) = self.start_at(watching, clause, due.start) else {
-            return Ok(());
-        };
-        let visit = Visit {
-            place: 0,
-            from_end: watching.pending.len().saturating_sub(due.index),
-            is_second: false,
-            start: due.start,
-        };
-        if self.is_false(pair.first) {
-            self.push_visit(watching, visits, pair.first, visit)?;
-        }
-        if self.is_false(pair.second) {
-            let visit = Visit {
-                is_second: true,
-                ..visit
-            };
-            self.push_visit(watching, visits, pair.second, visit)?;
-        }
-        Ok(())
-    }
-
-    /// Adds the visit at a false literal, where it became so before the propagation head.
-    fn push_visit(
-        &self,
-        watching: &WatchLists,
-        visits: &mut Vec<Visit>,
-        literal: Literal,
-        visit: Visit,
-    ) -> R<()>
+    /// Adds the place at which a literal became false, where that was before the propagation head.
+    fn push_place(&self, watching: &WatchLists, places: &mut Vec<usize>, literal: Literal) -> R<()>
+        requires { IsState self.now }
         ensures refusal { IsOkUnless result Memory }
     {
         let place = watching.place_of(literal.variable());
-        if place < self.qhead {
-            visits.push(Visit { place, ..visit })?;
+        if place < self.qhead && self.is_false(literal) {
+            places.push(place)?;
         }
         Ok(())
     }
 
-    /// The literals that a pending clause is to watch, where it has two, or where it is noted here.
-    fn start_at(
-        &self,
-        watching: &WatchLists,
-        clause: ClauseId,
-        start: usize,
-    ) -> Option<WatchedLiterals>
-        requires in_range { clause.0 < length self.now.clauses }
-    {
-        if let [first, second] = self.literals(clause) {
-            return Some(WatchedLiterals {
-                first: *first,
-                second: *second,
-            });
-        }
-        let start = watching.starts.get(start)?;
-        Some(start.watched)
-    }
-
-    /// Visits a pending clause; returns it where it is falsified.
-    fn make_visit(&mut self, watching: &mut WatchLists, visit: Visit) -> R<Option<ClauseId>>
+    /// Visits the new clauses, from this one on, that watch the literal which the entry of a place
+    /// makes false.
+    fn visit_place(
+        &mut self,
+        watching: &mut WatchLists,
+        place: usize,
+        first: ClauseId,
+    ) -> R<Option<ClauseId>>
         requires ready { IsReady self.old watching.old }
         ensures visited { IfOk result (IsPendingVisit self.old self.new watching.old watching.new) }
         ensures refusal { IsOkUnless result Memory }
     {
-        let index = watching.pending.len().saturating_sub(visit.from_end);
-        let Some(clause) = watching.pending_at(index) else {
-            return Ok(None);
-        };
-        let Some(start) = self.start_at(watching, clause, visit.start) else {
-            return Ok(None);
-        };
-        let fallen = if visit.is_second {
-            start.second
-        } else {
-            start.first
-        };
-        match self.visit_start(clause, &start, fallen)? {
-            StartVisit::Kept => Ok(None),
-            StartVisit::Moved(to) => {
-                watching.move_start(visit.start, start.moved(fallen, to));
-                Ok(None)
-            }
-            StartVisit::Falsified => Ok(Some(clause)),
+        match self.falsified_at(place) {
+            Some(literal) => self.visit_new(watching, literal, first),
+            None => Ok(None),
         }
     }
 
-    /// Visits a clause that is to watch two literals, one of which became false.
-    pub(crate) fn visit_start(
+    /// Visits the new clauses, from this one on, that watch a false literal. They are at the front of
+    /// its list. At a falsified clause the walk stops, and returns it.
+    fn visit_new(
         &mut self,
-        clause: ClauseId,
-        start: &WatchedLiterals,
-        fallen: Literal,
-    ) -> R<StartVisit>
-        requires state { IsState self.old }
-        requires in_range { clause.0 < length self.old.clauses }
-        ensures visited { IfOk result (IsStartVisit clause.0 self.old self.new) }
+        watching: &mut WatchLists,
+        literal: Literal,
+        first: ClauseId,
+    ) -> R<Option<ClauseId>>
+        requires ready { IsReady self.old watching.old }
+        requires known { has (made_true (history self.old)) (negation literal) ≡ true }
+        ensures visited { IfOk result (IsPendingVisit self.old self.new watching.old watching.new) }
         ensures refusal { IsOkUnless result Memory }
     {
-        if self.is_true(start.other(fallen)) {
-            return Ok(StartVisit::Kept);
+        let mut cursor = watching.watches.cursor(literal);
+        while let Some(clause) = cursor.clause_id(&watching.watches) {
+            if clause.0 < first.0 {
+                return Ok(None);
+            }
+            let watched = watching.pair(cursor, clause);
+            match self.visit_clause(watching, &mut cursor, clause, watched)? {
+                WatchVisit::Kept => cursor.next(&watching.watches),
+                WatchVisit::Moved => {}
+                WatchVisit::Falsified => return Ok(Some(clause)),
+            }
         }
-        match self.free_literal(clause, start, 0) {
-            Some(to) => Ok(StartVisit::Moved(to)),
-            None => self.force_one(clause, start),
-        }
-    }
-
-    /// Assigns the one of two literals that isn't false, where all others of the clause are.
-    fn force_one(&mut self, clause: ClauseId, start: &WatchedLiterals) -> R<StartVisit>
-        requires state { IsState self.old }
-        requires in_range { clause.0 < length self.old.clauses }
-        requires alone { IsFree (made_true (history self.old)) (clause_at (clauses_of self.old) clause.0)
-            start.now None }
-        ensures visited { IfOk result (IsStartVisit clause.0 self.old self.new) }
-        ensures refusal { IsOkUnless result Memory }
-    {
-        if self.is_false(start.second) {
-            return self.force(clause, start.first);
-        }
-        if self.is_false(start.first) {
-            return self.force(clause, start.second);
-        }
-        Ok(StartVisit::Kept)
-    }
-
-    /// Assigns a literal of a clause of which all others are false, unless it has a value.
-    fn force(&mut self, clause: ClauseId, literal: Literal) -> R<StartVisit>
-        requires state { IsState self.old }
-        requires in_range { clause.0 < length self.old.clauses }
-        requires others { AreFalseBut literal (made_true (history self.old))
-            (clause_at (clauses_of self.old) clause.0) }
-        ensures visited { IfOk result (IsStartVisit clause.0 self.old self.new) }
-        ensures refusal { IsOkUnless result Memory }
-    {
-        if self.is_false(literal) {
-            return Ok(StartVisit::Falsified);
-        }
-        if self.is_true(literal) {
-            return Ok(StartVisit::Kept);
-        }
-        if !is_among(self.literals(clause), literal) {
-            return Ok(StartVisit::Kept);
-        }
-        self.assign(clause, literal)?;
-        Ok(StartVisit::Kept)
+        Ok(None)
     }
 }
 
 impl WatchLists {
+    /// The place on the trail at which a variable was last seen.
+    pub(crate) fn place_of(&self, variable: VariableId) -> usize {
+        let index = variable.to_index();
+        if index < self.places.len() {
+            self.places[index] as usize
+        } else {
+            0
+        }
+    }
+
     /// Notes the place on the trail of a variable.
     #[inline(always)]
     pub(crate) fn set_place(&mut self, variable: VariableId, place: usize) -> R<()>
@@ -271,21 +158,5 @@ impl WatchLists {
             self.places[index] = place;
         }
         Ok(())
-    }
-
-    /// The pending clause of this index.
-    fn pending_at(&self, index: usize) -> Option<ClauseId>
-        ensures { IfSome result (λ c. slice_get self.now.pending.items index ≡ Some c) }
-    {
-        self.pending.get(index).copied()
-    }
-
-    /// Lets the clause that this is noted of be to watch these literals.
-    fn move_start(&mut self, start: usize, watched: WatchedLiterals)
-        ensures { KeepsLists self.old self.new }
-    {
-        if start < self.starts.len() {
-            self.starts[start].watched = watched;
-        }
     }
 }

@@ -2,7 +2,7 @@
 ghost use Rattle.std.specs.Prelude.{◌≡◌, slice_get, Some, IsOkUnless};
 ghost use Rattle.resolvo_pool_core.specs.declared.want.Want.TheVariants.{Memory};
 ghost use Rattle.resolvo_store_core.specs.Watches.{watchers, pair_at, IsWatched};
-ghost use Rattle.resolvo_sat.specs.Attach.{KeepsLists};
+ghost use Rattle.resolvo_sat.specs.Pending.{KeepsLists};
 
 use crate::marks::Marks;
 use resolvo_pool_core::id::{ClauseId, DenseIndex};
@@ -18,20 +18,11 @@ pub struct UnitClause {
     pub literal: Literal,
 }
 
-/// The literals that a pending clause is to watch.
+/// A literal that a new clause sets at once, and another one of it, which is false.
 #[derive(Clone, Copy, Debug)]
 pub struct Start {
     pub clause: ClauseId,
     pub watched: WatchedLiterals,
-}
-
-/// A pending clause that may have to be visited, with its place among the pending ones, and that of
-/// what is noted of it if it has more than two literals.
-#[derive(Clone, Copy, Debug)]
-pub struct Due {
-    pub clause: ClauseId,
-    pub index: usize,
-    pub start: usize,
 }
 
 /// Notes that the trail's first entries make the first unit clauses of both lists true.
@@ -55,13 +46,9 @@ pub struct WatchLists {
     pub learnt: Vec<UnitClause>,
     /// The unit clauses that need no visit, newest note last.
     pub units_done: Vec<UnitsDone>,
+    /// The clauses that were added since the last propagation, while one of the literals that they
+    /// watch was false.
     pub pending: Vec<ClauseId>,
-    /// What the pending clauses of more than two literals are to watch, in the order of `pending`. No
-    /// proof rests on it: it is tested.
-    pub starts: Vec<Start>,
-    /// The pending clauses that were added while one of the literals that they are to watch was
-    /// false. The others need no visit. No proof rests on it: it is tested.
-    pub due: Vec<Due>,
     /// The place on the trail at which each variable was last seen, or is to be. No proof rests on it
     /// either.
     pub places: Vec<u32>,
@@ -90,7 +77,7 @@ impl WatchLists {
     }
 
     /// The watched literals of a clause, if it has any.
-    fn pair_of(&self, clause: ClauseId) -> Option<WatchedLiterals>
+    pub(crate) fn pair_of(&self, clause: ClauseId) -> Option<WatchedLiterals>
         ensures { result ≡ pair_at self.now.watched.items clause.0 }
     {
         let index = clause.to_index();
@@ -109,21 +96,6 @@ impl WatchLists {
         } else {
             0
         }
-    }
-
-    /// Notes that the last pending clause, where it is this one, may have to be visited.
-    pub(crate) fn note_due(&mut self, clause: ClauseId) -> R<()>
-        ensures kept { KeepsLists self.old self.new }
-        ensures refusal { IsOkUnless result Memory }
-    {
-        let index = self.pending.len().saturating_sub(1);
-        let start = self.starts.len().saturating_sub(1);
-        self.due.push(Due {
-            clause,
-            index,
-            start,
-        })?;
-        Ok(())
     }
 
     /// Drops what is known of the clauses' first literals: entries of the first level are undone.

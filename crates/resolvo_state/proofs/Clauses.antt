@@ -19,7 +19,7 @@ use Rattle.resolvo_sat.specs.declared.state.SatState.{SatState}
 use Rattle.resolvo_sat.proofs.Literals.{has-cons}
 use Rattle.resolvo_store_core.specs.Clauses.{no, root as root_variable}
 use Rattle.resolvo_sat.specs.Propagation.{IsReady, AreCovered}
-use Rattle.resolvo_sat.specs.AddClause.{AddsPending}
+use Rattle.resolvo_sat.specs.AddClause.{AddsClause}
 use Rattle.resolvo_sat.specs.PropagateAndLearn.{Improves}
 use Rattle.resolvo_sat.proofs.Clauses.{length-lists}
 use Rattle.resolvo_sat.proofs.StepLemmas.{lists-append}
@@ -104,7 +104,7 @@ one_more {N} {S} old new x clause coding ready covered atoms variables clauses k
           inr (sym same, one, e ∙ coding.each)
     ]
 
-pub adds_rule_is : {N S : Type 0} (old new : SolverState N S) (x : Kind N S) (clause : SatClause) (id : ClauseId) → IsCoding old → IsSome (rule_of x) → AddsPending clause id old.search old.watching new.search new.watching
+pub adds_rule_is : {N S : Type 0} (old new : SolverState N S) (x : Kind N S) (clause : SatClause) (id : ClauseId) → IsCoding old → IsSome (rule_of x) → AddsClause clause id old.search old.watching new.search new.watching
     → clause.causes ≡ [] → new.atoms ≡ old.atoms → new.kinds.items ≡ old.kinds.items ++ x ∷ [] → AddsRule x clause.literals id old new
 adds_rule_is {N} {S} old new x clause id coding rule addition plain atoms kinds = record {
   coding = one_more old new x clause coding addition.ready addition.covered atoms addition.adds.variables addition.adds.added kinds (unrooted x rule) (λ e. absurd (unlearnt x rule e)) (λ e. absurd (unlearnt x rule e)) (λ e. absurd (unlearnt x rule e));
@@ -147,7 +147,7 @@ negative_apart literals negative l a b = both_ways (not l.positive) (falls (nega
     falls k h = elim (has-cons (no root_variable) literals k h) [ inl e ↦ ap (λ (x : Signed). x.positive) (sym e) | inr e ↦ negative k e ]
 
 -- a clause of negative literals alone was added
-pub denial_is : {N S : Type 0} (old new : SolverState N S) (clause : SatClause) (id : ClauseId) → IsCoding old → IsDenial old.search clause.literals clause.causes → AddsPending clause id old.search old.watching new.search new.watching
+pub denial_is : {N S : Type 0} (old new : SolverState N S) (clause : SatClause) (id : ClauseId) → IsCoding old → IsDenial old.search clause.literals clause.causes → AddsClause clause id old.search old.watching new.search new.watching
     → new.atoms ≡ old.atoms → new.kinds.items ≡ old.kinds.items ++ Learnt ∷ [] → AddsDenial clause.literals clause.causes id old new
 denial_is {N} {S} old new clause id coding forbid addition atoms kinds = record {
   coding = one_more old new Learnt clause coding addition.ready addition.covered atoms addition.adds.variables addition.adds.added kinds (λ e. absurd cc) (λ e. forbid.caused) (λ e. negative_apart clause.literals forbid.negative) (λ e. forbid.from);

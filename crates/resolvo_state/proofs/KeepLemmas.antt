@@ -9,7 +9,7 @@ use Rattle.resolvo_sat.specs.declared.state.SatState.{SatState}
 use Rattle.resolvo_sat.specs.declared.state.VariableKind.{VariableKind}
 use Rattle.resolvo_sat.specs.Known.{clause_at}
 use Rattle.resolvo_sat.specs.State.{lists}
-use Rattle.resolvo_sat.specs.Attach.{KeepsLists}
+use Rattle.resolvo_sat.specs.Pending.{KeepsLists}
 use Rattle.resolvo_sat.specs.Steps.{Chooses, Undoes}
 use Rattle.resolvo_sat.specs.declared.watch_lists.WatchLists.{WatchLists}
 use Rattle.resolvo_sat.specs.Propagation.{IsReady, AreCovered, SameWatching, Extends, IsPropagation}

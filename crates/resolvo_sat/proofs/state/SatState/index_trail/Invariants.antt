@@ -1,4 +1,4 @@
-use Rattle.resolvo_sat.specs.Attach.{KeepsLists}
+use Rattle.resolvo_sat.specs.Pending.{KeepsLists}
 use Rattle.resolvo_sat.proofs.state.SatState.index_trail.Given as goal
 
 abbrev pub invariant-loop-place : goal.invariant-loop-place

@@ -1,13 +1,13 @@
-use Rattle.std.proofs.Common.{◌≡◌, ◌+◌, ◌^◌, ◌<◌, ◌≤◌, List, take, length, None, sym, subst, arith}
+use Rattle.std.proofs.Common.{◌≡◌, ◌+◌, ◌^◌, ◌<◌, ◌≤◌, List, take, length, sym, subst, arith}
 use Rattle.resolvo_sat.specs.declared.state.SatState.{SatState}
 use Rattle.resolvo_sat.specs.declared.watch_lists.UnitClause.{UnitClause}
 use Rattle.resolvo_sat.specs.Propagation.{AllTrue, IsUnitsEnd, AssignsUnits, IsVisit, Walked}
 use Rattle.resolvo_sat.specs.Entries.{made_true}
 use Rattle.resolvo_sat.specs.State.{count_of, history}
-use Rattle.resolvo_sat.specs.Attach.{IsPendingEnd}
+use Rattle.resolvo_sat.specs.Pending.{IsPendingVisit, Proceeds}
 use Rattle.resolvo_sat.proofs.Readiness.{ready_extends, same_watching}
 use Rattle.resolvo_sat.proofs.ExtendLemmas.{extends_more}
-use Rattle.resolvo_sat.proofs.CompleteLemmas.{entries_bounded, running_starts, running_goes_on, running_smaller, units_ready, units_falsified, conflicts_later, all_true_more}
+use Rattle.resolvo_sat.proofs.CompleteLemmas.{entries_bounded, running_starts, settles_within, running_goes_on, running_smaller, units_ready, units_falsified, conflicts_later, all_true_more}
 use Rattle.resolvo_sat.proofs.state.SatState.propagate_from.Goals as goal
 
 pub loop-literal-init : goal.loop-literal-init
@@ -15,8 +15,8 @@ loop-literal-init c =
     let s : SatState = c.assign_units_from-2.new.self in
     let rules : AssignsUnits c.args.watching.now.assertions.items c.args.self.now c.assign_units_from.new.self = subst (λ (xs : List UnitClause). AssignsUnits xs c.args.self.now c.assign_units_from.new.self) c.as_slice.ensures.value (subst (IsUnitsEnd c.as_slice.result.now c.args.self.now c.assign_units_from.new.self) c.in_default.is c.in_ok-clause.ensures.set) in
     let learnt : AssignsUnits c.args.watching.now.learnt.items c.assign_units_from.new.self s = subst (λ (xs : List UnitClause). AssignsUnits xs c.assign_units_from.new.self s) c.as_slice-2.ensures.value (subst (IsUnitsEnd c.as_slice-2.result.now c.assign_units_from.new.self s) c.in_default-2.is c.in_ok-clause-2.ensures.set) in
-    let attached : IsPendingEnd s c.attach_pending.new.self c.args.watching.now c.attach_pending.new.watching None = subst (IsPendingEnd s c.attach_pending.new.self c.args.watching.now c.attach_pending.new.watching) c.in_default-3.is c.in_ok-clause-3.ensures.attached in
-    running_starts c.args.self.now c.assign_units_from.new.self s c.attach_pending.new.self c.args.watching.now c.attach_pending.new.watching rules learnt attached.0 attached.1 c.requires.within
+    running_starts c.args.self.now c.assign_units_from.new.self s c.visit_pending.new.self c.settle_pending.new.self c.args.watching.now c.visit_pending.new.watching c.settle_pending.new.watching rules learnt
+    (subst (IsPendingVisit s c.visit_pending.new.self c.args.watching.now c.visit_pending.new.watching) c.in_default-3.is c.in_ok-clause-3.ensures.visited) c.settle_pending.ensures
 
 pub returns-in-Some-clause-run : goal.returns-in-Some-clause-run
 returns-in-Some-clause-run c =
@@ -30,20 +30,31 @@ returns-in-Some-2-clause-run c =
     (units_falsified c.in-Some-2.clause.0 c.assign_units_from.new.self c.assign_units_from-2.new.self c.args.watching.now (ready_extends c.args.self.now c.assign_units_from.new.self c.args.watching.now c.requires.ready rules.extends rules.qhead)
     (subst (IsUnitsEnd c.as_slice-2.result.now c.assign_units_from.new.self c.assign_units_from-2.new.self) c.in-Some-2.is c.in_ok-clause-2.ensures.set))
 
-pub attach_pending-requires : goal.attach_pending-requires
-attach_pending-requires c = record {
+pub visit_pending-requires : goal.visit_pending-requires
+visit_pending-requires c = record {
   ready = units_ready c.args.self.now c.assign_units_from.new.self c.assign_units_from-2.new.self c.args.watching.now c.as_slice.result.now c.as_slice-2.result.now c.requires.ready
       (subst (IsUnitsEnd c.as_slice.result.now c.args.self.now c.assign_units_from.new.self) c.in_default.is c.in_ok-clause.ensures.set)
       (subst (IsUnitsEnd c.as_slice-2.result.now c.assign_units_from.new.self c.assign_units_from-2.new.self) c.in_default-2.is c.in_ok-clause-2.ensures.set);
 }
+
+pub settle_pending-requires : goal.settle_pending-requires
+settle_pending-requires c =
+    let s : SatState = c.assign_units_from-2.new.self in
+    let rules : AssignsUnits c.as_slice.result.now c.args.self.now c.assign_units_from.new.self = subst (IsUnitsEnd c.as_slice.result.now c.args.self.now c.assign_units_from.new.self) c.in_default.is c.in_ok-clause.ensures.set in
+    let learnt : AssignsUnits c.as_slice-2.result.now c.assign_units_from.new.self s = subst (IsUnitsEnd c.as_slice-2.result.now c.assign_units_from.new.self s) c.in_default-2.is c.in_ok-clause-2.ensures.set in
+    let proceeds : Proceeds s c.visit_pending.new.self c.args.watching.now c.visit_pending.new.watching = subst (IsPendingVisit s c.visit_pending.new.self c.args.watching.now c.visit_pending.new.watching) c.in_default-3.is c.in_ok-clause-3.ensures.visited in
+    record {
+      ready = proceeds.ready;
+      within = settles_within c.args.self.now c.assign_units_from.new.self s c.visit_pending.new.self c.args.watching.now c.visit_pending.new.watching c.as_slice.result.now c.as_slice-2.result.now rules learnt proceeds c.requires.within;
+    }
 
 pub returns-in-Some-3-clause-run : goal.returns-in-Some-3-clause-run
 returns-in-Some-3-clause-run c =
     let s : SatState = c.assign_units_from-2.new.self in
     let rules : AssignsUnits c.as_slice.result.now c.args.self.now c.assign_units_from.new.self = subst (IsUnitsEnd c.as_slice.result.now c.args.self.now c.assign_units_from.new.self) c.in_default.is c.in_ok-clause.ensures.set in
     let learnt : AssignsUnits c.as_slice-2.result.now c.assign_units_from.new.self s = subst (IsUnitsEnd c.as_slice-2.result.now c.assign_units_from.new.self s) c.in_default-2.is c.in_ok-clause-2.ensures.set in
-    conflicts_later c.in-Some-3.clause.0 c.args.self.now s c.attach_pending.new.self c.args.watching.now c.args.watching.now c.attach_pending.new.watching (same_watching c.args.watching.now) (extends_more c.args.self.now c.assign_units_from.new.self s rules.extends learnt.extends)
-    (subst (IsPendingEnd s c.attach_pending.new.self c.args.watching.now c.attach_pending.new.watching) c.in-Some-3.is c.in_ok-clause-3.ensures.attached)
+    conflicts_later c.in-Some-3.clause.0 c.args.self.now s c.visit_pending.new.self c.args.watching.now c.args.watching.now c.visit_pending.new.watching (same_watching c.args.watching.now) (extends_more c.args.self.now c.assign_units_from.new.self s rules.extends learnt.extends)
+    (subst (IsPendingVisit s c.visit_pending.new.self c.args.watching.now c.visit_pending.new.watching) c.in-Some-3.is c.in_ok-clause-3.ensures.visited)
 
 pub returns-in-Some-4-clause-run : goal.returns-in-Some-4-clause-run
 returns-in-Some-4-clause-run c =

@@ -1,6 +1,6 @@
 use Rattle.std.proofs.Common.{refl, ◌∙◌}
 use Rattle.resolvo_sat.proofs.ExtendLemmas.{extends_nothing, extends_more}
-use Rattle.resolvo_sat.proofs.StartLemmas.{attaches_kept}
+use Rattle.resolvo_sat.proofs.StartLemmas.{proceeds_kept}
 use Rattle.resolvo_sat.proofs.state.SatState.set_at_once.Goals as goal
 
 pub loop-start-init : goal.loop-start-init
@@ -15,6 +15,6 @@ loop-start-preserved c = (
   c.in_ok-set_noted.ensures.qhead ∙ c.loop-start.invariant.1,
 )
 
-pub returns-clause-attaches : goal.returns-clause-attaches
-returns-clause-attaches c =
-    attaches_kept c.args.self.now c.loop-start.self c.args.watching.now c.drop_new.new.self c.requires c.loop-start.invariant.0 c.loop-start.invariant.1 c.drop_new.ensures
+pub returns-clause-proceeds : goal.returns-clause-proceeds
+returns-clause-proceeds c =
+    proceeds_kept c.args.self.now c.loop-start.self c.args.watching.now c.drop_new.new.self c.requires c.loop-start.invariant.0 c.loop-start.invariant.1 c.drop_new.ensures
