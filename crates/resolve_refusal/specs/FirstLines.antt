@@ -38,6 +38,10 @@ AreFirst catalogue request place f = AreFirstBy (groups_of f) catalogue request 
 abbrev pub AreListed : List Line → List Line → (ℕ → Option FirstLines) → Type 0
 AreListed catalogue request versions = (n : ℕ) → IfSome (versions n) (AreFirst catalogue request (Some (record { 0 = n })))
 
+-- Where the first lines that were kept are those of these texts, the ones that are kept now are too.
+abbrev pub KeepsListed : List Line → List Line → (ℕ → Option FirstLines) → (ℕ → Option FirstLines) → Type 0
+KeepsListed catalogue request before after = AreListed catalogue request before → AreListed catalogue request after
+
 -- The first lines that are kept, of the request and of some versions, are those of these texts.
 pub record IsIndex (catalogue request : List Line) (x : LineIndex) : Type 0 where
   pub asked : IfSome x.request (AreFirst catalogue request None)

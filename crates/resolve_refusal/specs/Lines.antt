@@ -50,6 +50,10 @@ IsLineOf catalogue request (Some v) n = IsVersionLine (listed catalogue) catalog
 abbrev pub IsLineAt : List Line → Line → ℕ → Type 0
 IsLineAt lines line n = line_at lines n ≡ Some line
 
+-- It is the first line of the place with this content, or there is none.
+abbrev pub IsFirstWith : List Line → List Line → Option VersionNo → Line → Option ℕ → Type 0
+IsFirstWith catalogue request place content found = IsLeast found (λ n. IsLineOf catalogue request place n × IsLineAt (text_of catalogue request place) content n)
+
 -- Line n of a text has the property.
 abbrev pub IsAt : List Line → (Line → Type 0) → ℕ → Type 0
 IsAt lines P n = (l : Line) × IsLineAt lines l n × P l
@@ -79,6 +83,11 @@ IsCaseAt lines alternatives case n (Some k) = IsAt lines (NeedsAs alternatives c
 abbrev pub IsNeedLine : (ℕ → Type 0) → List Line → List Spec → List Spec → Option NeedLine → Type 0
 IsNeedLine Among lines alternatives case None = (n : ℕ) → Among n → IsAt lines (NeedsIn alternatives case) n → ⊥
 IsNeedLine Among lines alternatives case (Some found) = Among found.line × IsAt lines (NeedsAs alternatives case found.case) found.line × ((m : ℕ) → m < found.line → Among m → IsAt lines (NeedsIn alternatives case) m → ⊥)
+
+-- It is the first line of the place that needs the alternatives in this case, with the number of its first such case. Or
+-- none does.
+abbrev pub IsFirstNeed : List Line → List Line → Option VersionNo → List Spec → List Spec → Option NeedLine → Type 0
+IsFirstNeed catalogue request place alternatives case found = IsNeedLine (IsLineOf catalogue request place) (text_of catalogue request place) alternatives case found
 
 -- the line locks a version
 abbrev pub locks : Line → Bool

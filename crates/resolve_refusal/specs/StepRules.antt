@@ -23,7 +23,7 @@ use Rattle.resolve_refusal.specs.RefusedReport.{version_at, place_at, number_of}
 use Rattle.resolve_refusal.specs.declared.lines.NeedLine.{NeedLine}
 use Rattle.resolve_refusal.specs.declared.lines.WordLine.{WordLine}
 use Rattle.resolve_refusal.specs.declared.lines.WordLine.TheVariants as with_word
-use Rattle.resolve_refusal.specs.Lines.{IsLeast, text_of, IsLineOf, IsLineAt, IsNeedLine, IsLockLine, IsWordLine}
+use Rattle.resolve_refusal.specs.Lines.{IsFirstWith, IsFirstNeed, IsLockLine, IsWordLine}
 use Rattle.resolve_refusal.specs.Refusal.{AreLiterals, HaveForm}
 
 -- the version of a solvable by its number
@@ -32,11 +32,11 @@ version_no s = record { 0 = s.raw }
 
 -- The line is the first of the place that equals this one; 0 is none.
 abbrev pub IsFirstLine : List Line → List Line → Option VersionNo → Line → ℕ → Type 0
-IsFirstLine catalogue request place source line = (found : Option ℕ) × (line ≡ unwrap_or found 0) × IsLeast found (λ n. IsLineOf catalogue request place n × IsLineAt (text_of catalogue request place) source n)
+IsFirstLine catalogue request place source line = (found : Option ℕ) × (line ≡ unwrap_or found 0) × IsFirstWith catalogue request place source found
 
 -- The line is the first of the parent's that needs the requirement in this case, with its first such case; or none does.
 abbrev pub IsNeedLineOf : List Line → List Line → Ids → Option SolvableId → Requirement → List VersionSetId → Option NeedLine → Type 0
-IsNeedLineOf catalogue request ids parent r case found = IsNeedLine (IsLineOf catalogue request (option_map version_no parent)) (text_of catalogue request (option_map version_no parent)) (alternatives_at ids r) (map (spec_at ids) case) found
+IsNeedLineOf catalogue request ids parent r case found = IsFirstNeed catalogue request (option_map version_no parent) (alternatives_at ids r) (map (spec_at ids) case) found
 
 -- The step names the need by that line and case, where there is one.
 abbrev pub NamesNeed : List Line → List Line → Ids → Option SolvableId → Requirement → List VersionSetId → Step → Type 0

@@ -10,7 +10,7 @@ ghost use Rattle.resolvo_pool_core.specs.declared.want.Want.TheVariants.{Ids, Me
 ghost use Rattle.resolvo_text.specs.Line as content;
 ghost use Rattle.resolvo_text.specs.View.{spec_of, specs_of};
 ghost use Rattle.resolve_refusal.specs.LacksNumbers.{HasTooManyCases};
-ghost use Rattle.resolve_refusal.specs.Lines.{IsLeast, text_of, IsLineOf, IsLineAt, IsAt, NeedsIn, IsNeedLine};
+ghost use Rattle.resolve_refusal.specs.Lines.{text_of, IsLineOf, IsAt, NeedsIn, IsFirstWith, IsFirstNeed};
 ghost use Rattle.resolve_refusal.specs.RuleKeys.{AreKeysAt};
 ghost use Rattle.resolve_refusal.specs.FirstLines.{first_or, KeepsFirst, first_of, AreFirst, AreFirstBy};
 
@@ -211,11 +211,8 @@ impl Texts<'_> {
             (λ f. AreFirst self.catalogue.now self.request.now.lines place f.now) }
         ensures line { IfOk result
             (λ found.
-            IsLeast found
-            (λ n.
-            IsLineOf self.entry.catalogue.now self.entry.request.now.lines place n
-            × IsLineAt (text_of self.entry.catalogue.now self.entry.request.now.lines place)
-            (content.Needs (specs_of alternatives.now) None) n)) }
+            IsFirstWith self.entry.catalogue.now self.entry.request.now.lines place
+            (content.Needs (specs_of alternatives.now) None) found) }
         ensures refusal { IsOkUnless result Memory }
     {
         match first {
@@ -235,11 +232,8 @@ impl Texts<'_> {
         requires { AreFirst self.catalogue.now self.request.now.lines place first.now }
         ensures line { IfOk result
             (λ found.
-            IsLeast found
-            (λ n.
-            IsLineOf self.entry.catalogue.now self.entry.request.now.lines place n
-            × IsLineAt (text_of self.entry.catalogue.now self.entry.request.now.lines place)
-            (content.Needs (specs_of alternatives.now) None) n)) }
+            IsFirstWith self.entry.catalogue.now self.entry.request.now.lines place
+            (content.Needs (specs_of alternatives.now) None) found) }
         ensures refusal { IsOkUnless result Memory }
     {
         let key = need_key(alloc, &first.groups, alternatives, &[])?;
@@ -268,8 +262,7 @@ impl Texts<'_> {
         requires { IfSome first
             (λ f. AreFirst self.catalogue.now self.request.now.lines place f.now) }
         ensures line { IfOk result
-            (IsNeedLine (IsLineOf self.entry.catalogue.now self.entry.request.now.lines place)
-            (text_of self.entry.catalogue.now self.entry.request.now.lines place)
+            (IsFirstNeed self.entry.catalogue.now self.entry.request.now.lines place
             (specs_of alternatives.now) (specs_of case.now)) }
         ensures ids { IsErrOf result Ids
             → HasTooManyCases
@@ -292,8 +285,7 @@ impl Texts<'_> {
     ) -> R<Option<NeedLine>>
         requires { AreFirst self.catalogue.now self.request.now.lines place first.now }
         ensures line { IfOk result
-            (IsNeedLine (IsLineOf self.entry.catalogue.now self.entry.request.now.lines place)
-            (text_of self.entry.catalogue.now self.entry.request.now.lines place)
+            (IsFirstNeed self.entry.catalogue.now self.entry.request.now.lines place
             (specs_of alternatives.now) (specs_of case.now)) }
         ensures ids { IsErrOf result Ids
             → HasTooManyCases
@@ -324,8 +316,7 @@ impl Texts<'_> {
             (NeedsIn (specs_of alternatives.now) (specs_of case.now)) n
             → ⊥ }
         ensures line { IfOk result
-            (IsNeedLine (IsLineOf self.entry.catalogue.now self.entry.request.now.lines place)
-            (text_of self.entry.catalogue.now self.entry.request.now.lines place)
+            (IsFirstNeed self.entry.catalogue.now self.entry.request.now.lines place
             (specs_of alternatives.now) (specs_of case.now)) }
         ensures ids { IsErrOf result Ids
             → HasTooManyCases
@@ -350,11 +341,8 @@ impl Texts<'_> {
             (λ f. AreFirst self.catalogue.now self.request.now.lines place f.now) }
         ensures line { IfOk result
             (λ found.
-            IsLeast found
-            (λ n.
-            IsLineOf self.entry.catalogue.now self.entry.request.now.lines place n
-            × IsLineAt (text_of self.entry.catalogue.now self.entry.request.now.lines place)
-            (content.Limits (spec_of spec.now)) n)) }
+            IsFirstWith self.entry.catalogue.now self.entry.request.now.lines place
+            (content.Limits (spec_of spec.now)) found) }
         ensures refusal { IsOkUnless result Memory }
     {
         match first {
@@ -374,11 +362,8 @@ impl Texts<'_> {
         requires { AreFirst self.catalogue.now self.request.now.lines place first.now }
         ensures line { IfOk result
             (λ found.
-            IsLeast found
-            (λ n.
-            IsLineOf self.entry.catalogue.now self.entry.request.now.lines place n
-            × IsLineAt (text_of self.entry.catalogue.now self.entry.request.now.lines place)
-            (content.Limits (spec_of spec.now)) n)) }
+            IsFirstWith self.entry.catalogue.now self.entry.request.now.lines place
+            (content.Limits (spec_of spec.now)) found) }
         ensures refusal { IsOkUnless result Memory }
     {
         let key = limit_key(alloc, spec)?;

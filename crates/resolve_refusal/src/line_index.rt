@@ -1,12 +1,12 @@
 //! The first lines, by their keys, of the long places that many steps name: of the request and of
 //! versions. A place without them is walked. And the lines that exclude versions, as hints.
 
-ghost use Rattle.std.specs.Prelude.{List, IfOk, IfSome, IsOkUnless, OnOk, None};
+ghost use Rattle.std.specs.Prelude.{◌≡◌, List, IfOk, IfSome, IsOkUnless, OnOk, None};
 ghost use Rattle.std.specs.BTreeMap.{get};
 ghost use Rattle.std.specs.Ordering.{nat_cmp};
 ghost use Rattle.resolvo_pool_core.specs.declared.want.Want.TheVariants.{Memory};
 ghost use Rattle.resolvo_text.specs.Line as content;
-ghost use Rattle.resolve_refusal.specs.FirstLines.{AreFirst, AreListed, IsIndex};
+ghost use Rattle.resolve_refusal.specs.FirstLines.{AreFirst, AreListed, KeepsListed, IsIndex};
 
 use crate::first_lines::FirstLines;
 use crate::lines::{Texts, lock_line};
@@ -43,7 +43,9 @@ impl LineIndex {
     }
 
     /// A line that may exclude the version. It is only a hint.
-    pub fn exclusion(&self, version: VersionNo) -> Option<u32> {
+    pub fn exclusion(&self, version: VersionNo) -> Option<u32>
+        ensures { result ≡ get nat_cmp self.now.exclusions version.0 }
+    {
         self.exclusions.get(&version.0).copied()
     }
 }
@@ -108,10 +110,8 @@ fn keep_version(
     versions: &mut BTreeMap<u32, FirstLines>,
 ) -> R<()>
     ensures listed { OnOk result
-        (AreListed texts.entry.catalogue.now texts.entry.request.now.lines
-        (get nat_cmp versions.old)
-        → AreListed texts.entry.catalogue.now texts.entry.request.now.lines
-        (get nat_cmp versions.new)) }
+        (KeepsListed texts.entry.catalogue.now texts.entry.request.now.lines
+        (get nat_cmp versions.old) (get nat_cmp versions.new)) }
     ensures refusal { IsOkUnless result Memory }
 {
     let first = texts.first_lines(alloc, Some(version))?;
@@ -129,10 +129,8 @@ fn note_version(
     versions: &mut BTreeMap<u32, FirstLines>,
 ) -> R<()>
     ensures listed { OnOk result
-        (AreListed texts.entry.catalogue.now texts.entry.request.now.lines
-        (get nat_cmp versions.old)
-        → AreListed texts.entry.catalogue.now texts.entry.request.now.lines
-        (get nat_cmp versions.new)) }
+        (KeepsListed texts.entry.catalogue.now texts.entry.request.now.lines
+        (get nat_cmp versions.old) (get nat_cmp versions.new)) }
     ensures refusal { IsOkUnless result Memory }
 {
     if texts.catalogue.lines_of(version).len() <= FEW as usize {

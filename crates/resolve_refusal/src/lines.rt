@@ -13,7 +13,7 @@ ghost use Rattle.resolvo_catalogue_core.specs.Kept.{IsKeptLine};
 ghost use Rattle.resolvo_terms.specs.Terms.{Terms};
 ghost use Rattle.resolvo_pool_core.specs.declared.want.Want.TheVariants.{Ids};
 ghost use Rattle.resolve_refusal.specs.LacksNumbers.{HasTooManyCases};
-ghost use Rattle.resolve_refusal.specs.Lines.{count_of, number_at, AreLines, IsLeast, text_of, IsLineOf, IsLineAt, IsCaseOf, IsCaseAt, IsNeedLine, locks, ExcludesAt, MarksUnknownAt, IsWordLine, IsLockLine, IsForbidLineOf};
+ghost use Rattle.resolve_refusal.specs.Lines.{count_of, number_at, AreLines, IsLeast, text_of, IsLineOf, IsLineAt, IsCaseOf, IsCaseAt, locks, ExcludesAt, MarksUnknownAt, IsWordLine, IsLockLine, IsForbidLineOf, IsFirstWith, IsFirstNeed};
 
 use resolvo_catalogue_core::{Catalogue, Cond, KeptRule, Request, Rule, Spec, VersionNo};
 use resolvo_pool_core::id::next_index;
@@ -94,11 +94,8 @@ impl<'a> Texts<'a> {
     /// The first line of a place that needs these alternatives without a condition. The place is a
     /// version, or none for the request.
     pub fn plain_need_line(self, place: Option<VersionNo>, alternatives: &[Spec]) -> Option<u32>
-        ensures { IsLeast result
-            (λ n.
-            IsLineOf self.entry.catalogue.now self.entry.request.now.lines place n
-            × IsLineAt (text_of self.entry.catalogue.now self.entry.request.now.lines place)
-            (content.Needs (specs_of alternatives.now) None) n) }
+        ensures { IsFirstWith self.entry.catalogue.now self.entry.request.now.lines place
+            (content.Needs (specs_of alternatives.now) None) result }
     {
         let lines = self.lines_of(place);
         for at in 0..lines.count() {
@@ -135,8 +132,7 @@ impl<'a> Texts<'a> {
         case: &[Spec],
     ) -> R<Option<NeedLine>>
         ensures line { IfOk result
-            (IsNeedLine (IsLineOf self.entry.catalogue.now self.entry.request.now.lines place)
-            (text_of self.entry.catalogue.now self.entry.request.now.lines place)
+            (IsFirstNeed self.entry.catalogue.now self.entry.request.now.lines place
             (specs_of alternatives.now) (specs_of case.now)) }
         ensures ids { IsErrOf result Ids
             → HasTooManyCases
@@ -180,11 +176,8 @@ impl<'a> Texts<'a> {
 
     /// The first line of a place that limits its set to this SPEC.
     pub fn limit_line(self, place: Option<VersionNo>, spec: &Spec) -> Option<u32>
-        ensures { IsLeast result
-            (λ n.
-            IsLineOf self.entry.catalogue.now self.entry.request.now.lines place n
-            × IsLineAt (text_of self.entry.catalogue.now self.entry.request.now.lines place)
-            (content.Limits (spec_of spec.now)) n) }
+        ensures { IsFirstWith self.entry.catalogue.now self.entry.request.now.lines place
+            (content.Limits (spec_of spec.now)) result }
     {
         let lines = self.lines_of(place);
         for at in 0..lines.count() {
@@ -225,10 +218,8 @@ impl<'a> Texts<'a> {
 
     /// The first line of a version that marks its needs as unknown with this word.
     fn unknown_line(self, version: VersionNo, word: &str) -> Option<u32>
-        ensures { IsLeast result
-            (λ n.
-            IsLineOf self.entry.catalogue.now self.entry.request.now.lines (Some version) n
-            × IsLineAt self.entry.catalogue.now (content.Unknown word.now) n) }
+        ensures { IsFirstWith self.entry.catalogue.now self.entry.request.now.lines
+            (Some version) (content.Unknown word.now) result }
     {
         let lines = self.lines_of(Some(version));
         for at in 0..lines.count() {

@@ -12,7 +12,7 @@ ghost use Rattle.resolvo_proof.specs.declared.step.ProofRule.TheVariants.{Limit}
 ghost use Rattle.resolvo_catalogue.specs.Known.{spec_at, alternatives_at};
 ghost use Rattle.resolve_refusal.specs.LacksNumbers.{LacksCaseNumbers};
 ghost use Rattle.resolve_refusal.specs.RefusedReport.{version_at, place_at, number_of, HasWord, IsWritten};
-ghost use Rattle.resolve_refusal.specs.Lines.{IsLeast, text_of, IsLineOf, IsLineAt};
+ghost use Rattle.resolve_refusal.specs.Lines.{IsFirstWith};
 ghost use Rattle.resolve_refusal.specs.FirstLines.{IsIndex};
 ghost use Rattle.resolve_refusal.specs.StepRules.{version_no, IsFirstLine, IsNeedLineOf, NamesNeed, NamesLock, NamesWord, NamesRule};
 
@@ -207,16 +207,9 @@ impl Writing<'_> {
         requires { IsIndex self.texts.catalogue.now self.texts.request.now.lines self.index.now }
         ensures line { IfOk result
             (λ found.
-            IsLeast found
-            (λ n.
-            IsLineOf self.entry.texts.catalogue.now self.entry.texts.request.now.lines
-            (option_map version_no parent) n
-            × IsLineAt
-            (text_of self.entry.texts.catalogue.now self.entry.texts.request.now.lines
-            (option_map version_no parent))
-            (content.Needs (alternatives_at self.entry.provider.now.ids requirement)
-            None)
-            n)) }
+            IsFirstWith self.entry.texts.catalogue.now self.entry.texts.request.now.lines
+            (option_map version_no parent)
+            (content.Needs (alternatives_at self.entry.provider.now.ids requirement) None) found) }
         ensures refusal { IsOkUnless result Memory }
     {
         let alternatives = self.provider.alternatives_of(requirement)?;
