@@ -452,6 +452,39 @@ fn first_warm_word(marks: &[u64], warm: &[u64], from: usize, last: usize) -> usi
         → k < result
         → bit_and (word_at marks.now k) (word_at warm.now k) ≡ 0 }
 {
+    let start = first_of_both(marks, warm, from, last);
+    first_of_words(marks, warm, start, last)
+}
+
+/// The same as far as both lists have words, where they need no test of their length.
+fn first_of_both(marks: &[u64], warm: &[u64], from: usize, last: usize) -> usize
+    requires { from ≤ last }
+    ensures behind { from ≤ result }
+    ensures within { result ≤ last }
+    ensures passed { (k : ℕ)
+        → from ≤ k
+        → k < result
+        → bit_and (word_at marks.now k) (word_at warm.now k) ≡ 0 }
+{
+    let both = last.min(marks.len()).min(warm.len());
+    for block in from..both {
+        if marks[block] & warm[block] != 0 {
+            return block;
+        }
+    }
+    both.max(from)
+}
+
+/// The same, word by word.
+fn first_of_words(marks: &[u64], warm: &[u64], from: usize, last: usize) -> usize
+    requires { from ≤ last }
+    ensures behind { from ≤ result }
+    ensures within { result ≤ last }
+    ensures passed { (k : ℕ)
+        → from ≤ k
+        → k < result
+        → bit_and (word_at marks.now k) (word_at warm.now k) ≡ 0 }
+{
     for block in from..last {
         if warm_word(marks, warm, block) != 0 {
             return block;

@@ -1,7 +1,7 @@
 use Rattle.std.proofs.Common.{◌≡◌, ℕ, ◌<◌, ◌≤◌}
 use Rattle.std.specs.Prelude.{bit_and}
 use Rattle.resolvo_decide.specs.States.{word_at}
-use Rattle.resolvo_decide.proofs.clause_states.first_warm_word.Given as goal
+use Rattle.resolvo_decide.proofs.clause_states.first_of_words.Given as goal
 
 -- no clause of the blocks so far is marked and may be warm
 abbrev pub invariant-loop-block : goal.invariant-loop-block
