@@ -10,5 +10,6 @@ pub mod Alike
 pub mod RulesKept
 pub mod KeptAlike
 pub mod SortLemmas
+pub mod RiseLemmas
 pub mod TryLemmas
 pub mod CountLemmas

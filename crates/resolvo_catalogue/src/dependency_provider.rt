@@ -1,12 +1,13 @@
 //! The traits of a provider, by which the solver calls it, and their laws.
 
-ghost use Rattle.std.specs.Prelude.{◌≡◌, ◌==◌, IfOk, IsOkUnless, option_copied};
+ghost use Rattle.std.specs.Prelude.{◌≡◌, ◌==◌, ◌∷◌, [], ◌++◌, true, reverse, IfOk, OnOk, IsOkUnless, option_copied};
 ghost use Rattle.resolvo_pool_core.specs.declared.want.Want.TheVariants.{Memory};
 ghost use Rattle.std.specs.List.{find, flat_map};
+ghost use Rattle.std.specs.List.Sorted.{IsNonDecreasingBy};
 ghost use Rattle.resolvo_catalogue.specs.Laws.{operands_below, candidates_named};
 ghost use Rattle.resolvo_catalogue.specs.Ids.{solvables_of};
 ghost use Rattle.resolvo_catalogue.specs.Dependencies.{deps_of};
-ghost use Rattle.resolvo_catalogue.specs.Provider.{matches, marks_at, many_at, are_many, deps_at, exclusion_of, exclusions_of};
+ghost use Rattle.resolvo_catalogue.specs.Provider.{age_of, matches, marks_at, many_at, are_many, deps_at, exclusion_of, exclusions_of};
 ghost use Rattle.resolvo_catalogue.specs.Known.{solvable_at, name_of, set_at, members_of, condition_at, name_text, solvable_text, merged_text, span_text, word_text};
 
 use crate::dependencies::VersionDependencies;
@@ -23,6 +24,9 @@ use resolvo_pool_core::provider::{
 use resolvo_pool_core::want::R;
 use std::alloc::{AllocError, Global};
 use std::fmt;
+
+/// For so many solvables at most the first one that is found reserves room.
+const ROOM: usize = 8;
 
 /// The value with which a provider over a catalogue cancels when its budget is used up.
 #[derive(Clone, Copy, Debug, PartialEq, Eq)]
@@ -164,7 +168,7 @@ impl<'a> DependencyProvider for CatalogueProvider<'a> {
         let mut found = Vec::new(alloc);
         for candidate in candidates {
             if self.is_in(name, span, *candidate) != inverse {
-                found.push(*candidate)?;
+                put_found(&mut found, *candidate, candidates.len())?;
             }
         }
         Ok(found)
@@ -193,6 +197,10 @@ impl<'a> DependencyProvider for CatalogueProvider<'a> {
     }
 
     fn sort_candidates(&self, alloc: Global, candidates: &mut [SolvableId]) -> R<()> {
+        if self.rise(candidates) {
+            candidates.reverse();
+            return Ok(());
+        }
         candidates.sort_by_key(alloc, |s| u32::MAX - self.ids.number_of(*s))?;
         Ok(())
     }
@@ -236,6 +244,21 @@ impl<'a> CatalogueProvider<'a> {
             → result ≡ matches self.now v solvable }
     {
         self.ids.package_of(solvable) == name && is_in_span(span, self.ids.number_of(solvable))
+    }
+
+    /// Whether the numbers of solvables rise.
+    fn rise(&self, solvables: &[SolvableId]) -> bool
+        ensures { result ≡ true → IsNonDecreasingBy (age_of self.now) (reverse solvables.now) }
+    {
+        let mut least = 0;
+        for solvable in solvables {
+            let number = u64::from(self.ids.number_of(*solvable));
+            if number < least {
+                return false;
+            }
+            least = number + 1;
+        }
+        true
     }
 
     /// The versions of a package, in the order of their lines.
@@ -368,4 +391,16 @@ impl<'a> CatalogueProvider<'a> {
         excluded.sort_by_key(|one| self.exclusion_line(one.0))?;
         Ok(excluded)
     }
+}
+
+/// Appends a solvable. The first one reserves room for several: at most so many are found.
+fn put_found(found: &mut Vec<SolvableId>, solvable: SolvableId, most: usize) -> R<()>
+    ensures pushed { OnOk result (found.new.items ≡ found.old.items ++ solvable ∷ []) }
+    ensures refusal { IsOkUnless result Memory }
+{
+    if found.is_empty() {
+        found.reserve(most.min(ROOM))?;
+    }
+    found.push(solvable)?;
+    Ok(())
 }
