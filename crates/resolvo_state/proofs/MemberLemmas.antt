@@ -8,15 +8,17 @@ use Rattle.indexmap.specs.IndexSet.{insert_key}
 use Rattle.resolvo_pool_core.specs.declared.id.VariableId.{VariableId}
 use Rattle.resolvo_store_core.specs.AtMostOne.{IsPrefixOf}
 use Rattle.resolvo_sat.proofs.Lists.{any_contained, contains_later, contains_left, contains_right, contains_only, contains_one, contains_parts}
+use Rattle.resolvo_state.specs.declared.atom.ProofAtom.{ProofAtom}
 use Rattle.resolvo_state.specs.declared.atom.ProofAtom.TheVariants.{Solvable}
 use Rattle.resolvo_state.specs.declared.solver_state.SolverState.{SolverState}
 use Rattle.resolvo_state.specs.declared.registry.Registry.{Registry}
 use Rattle.resolvo_state.specs.declared.registry.Member.{Member}
 use Rattle.resolvo_state.specs.Atoms.{Represents}
-use Rattle.resolvo_state.specs.SolverState.{Gives}
+use Rattle.resolvo_state.specs.SolverState.{IsCoding, Gives}
 use Rattle.resolvo_state.specs.Keys.{AreOnce, Includes}
 use Rattle.resolvo_state.specs.Registered.{AreTied, IsInTracker, IsTracked, IsQueued, member, MarksMany, Registers}
 use Rattle.resolvo_state.proofs.Positions.{get_last, get_contains, contains_get, prefix_get, prefix_same}
+use Rattle.resolvo_state.proofs.Growth.{grows_same, trail_same}
 use Rattle.resolvo_state.proofs.RegisterLemmas.{digits_same, ties_grow}
 
 -- a value that isn't in the list is appended
@@ -47,6 +49,19 @@ included_last {X} x xs ys is = subst (λ (zs : List X). Includes xs zs x) (sym i
   present = contains_right x xs (x ∷ []) (contains_only x);
   only = λ z k. elim (contains_parts z xs (x ∷ []) k) [ inl j ↦ inl j | inr j ↦ inr (contains_one z x j, get_last xs x) ];
 })
+
+-- the variable that represents an atom is given
+pub gives_known : {N S : Type 0} (a : ProofAtom N S) (v : VariableId) (c : SolverState N S) → IsCoding c → Represents c.atoms.keys v a → Gives a v c c
+gives_known a v c coding found = record {
+  coding = coding;
+  present = found;
+  same = λ k h. refl;
+  added = λ none. absurd (none found.0 found.2);
+  grows = grows_same c;
+  trail = trail_same c;
+  clauses = refl;
+  kinds = refl;
+}
 
 -- one of the prefix is one of the list
 prefix_has : {X : Type 0} (xs ys : List X) (x : X) → IsPrefixOf xs ys → Contains xs x → Contains ys x

@@ -57,14 +57,21 @@ impl<N: Copy + Exact + Debug> Members<N> {
         ensures included { OnOk result (Includes self.old.keys self.new.keys member) }
         ensures refusal { IsOkUnless result Memory }
     {
-        let place = self.place(member.variable);
-        if is_at(self.keys.as_slice(), place, member) {
+        if self.is_last(member) {
             return Ok(());
         }
         let next = self.keys.len();
         note_place(&mut self.places, member.variable, next)?;
         self.keys.push(member)?;
         Ok(())
+    }
+
+    /// Whether a member is its variable's last one.
+    pub fn is_last(&self, member: Member<N>) -> bool
+        ensures { result ≡ true → Contains self.now.keys member }
+    {
+        let place = self.place(member.variable);
+        is_at(self.keys.as_slice(), place, member)
     }
 
     /// The place that is noted for a variable.

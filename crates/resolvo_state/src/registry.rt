@@ -6,7 +6,7 @@
 //! solvables may be true side by side.
 ghost use Rattle.std.proofs.lemmas.Bool.{and_parts, eqb-true};
 ghost use Rattle.std.specs.Bool.{Decides};
-ghost use Rattle.std.specs.Prelude.{◌≡◌, ◌<◌, ◌≤◌, Bool, false, None, map, length, is_some, IfOk, OnOk, IsErrOf, IsOkUnless, Contains};
+ghost use Rattle.std.specs.Prelude.{◌≡◌, ◌<◌, ◌≤◌, Bool, false, None, map, length, is_some, IfOk, IfSome, OnOk, IsErrOf, IsOkUnless, Contains};
 ghost use Rattle.resolvo_pool_core.specs.declared.want.Want.TheVariants.{Memory, Ids};
 ghost use Rattle.resolvo_pool_core.specs.declared.id.VariableId.{VariableId};
 ghost use Rattle.resolvo_store_core.specs.AtMostOne.{needs_helper, ties, tie_all};
@@ -114,7 +114,48 @@ impl<N: Copy + Exact + Hash + Debug> Registry<N> {
 
     /// Registers a solvable of a package, and returns its variable, which is created where there is
     /// none. A new one waits for its digits.
+    #[inline(always)]
     pub fn register<S: Copy + Exact + Hash + Debug>(
+        &mut self,
+        coding: &mut SolverState<N, S>,
+        name: N,
+        solvable: S,
+    ) -> R<VariableId>
+        requires coding { IsCoding coding.old }
+        requires tied { AreTied self.old coding.old }
+        ensures registered { IfOk result
+            (λ v. Registers name solvable v self.old coding.old self.new coding.new) }
+        ensures ids { IsErrOf result Ids → LacksNumber coding.new }
+    {
+        if let Some(variable) = self.registered(coding, name, solvable) {
+            return Ok(variable);
+        }
+        self.register_new(coding, name, solvable)
+    }
+
+    /// The variable of a solvable that is registered, if the package is its last one.
+    #[inline(always)]
+    fn registered<S: Copy + Exact + Hash + Debug>(
+        &self,
+        coding: &SolverState<N, S>,
+        name: N,
+        solvable: S,
+    ) -> Option<VariableId>
+        requires { IsCoding coding.now }
+        ensures { IfSome result
+            (λ v. Represents coding.now.atoms.keys v (Solvable solvable) × IsTracked self.now name v) }
+    {
+        let variable = coding.find(ProofAtom::Solvable(solvable))?;
+        if self.members.is_last(Member { name, variable }) {
+            Some(variable)
+        } else {
+            None
+        }
+    }
+
+    /// Registers a solvable of a package, and returns its variable, which is created where there is
+    /// none.
+    fn register_new<S: Copy + Exact + Hash + Debug>(
         &mut self,
         coding: &mut SolverState<N, S>,
         name: N,

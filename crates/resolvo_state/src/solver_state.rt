@@ -1,7 +1,7 @@
 //! The search, with the atoms of its variables and the rules of its clauses.
 //! Variable 0 is the root's. Variable k + 1 represents the k-th atom, and the n-th clause encodes
 //! the n-th of `kinds`.
-ghost use Rattle.std.specs.Prelude.{◌≡◌, ◌<◌, IfOk, IfSome, IsErrOf, IsOkUnless};
+ghost use Rattle.std.specs.Prelude.{◌≡◌, ◌<◌, None, IfOk, IfSome, IsErrOf, IsOkUnless};
 ghost use Rattle.resolvo_pool_core.specs.declared.want.Want.TheVariants.{Memory, Ids};
 ghost use Rattle.resolvo_sat.specs.State.{count_of};
 ghost use Rattle.resolvo_state.specs.Atoms.{IsFound, solvable_of, bit_of};
@@ -58,6 +58,7 @@ impl<N: Copy + Exact + Hash + Debug, S: Copy + Exact + Hash + Debug> SolverState
     }
 
     /// The variable that represents the atom, if there is one.
+    #[inline(always)]
     pub fn find(&self, atom: ProofAtom<N, S>) -> Option<VariableId>
         requires { IsCoding self.now }
         ensures found { IsFound self.now.atoms.keys atom result }
@@ -70,6 +71,7 @@ impl<N: Copy + Exact + Hash + Debug, S: Copy + Exact + Hash + Debug> SolverState
     }
 
     /// The variable that represents the atom, which is a new one where there is none.
+    #[inline(always)]
     pub fn variable(&mut self, atom: ProofAtom<N, S>) -> R<VariableId>
         requires { IsCoding self.old }
         ensures given { IfOk result (λ v. Gives atom v self.old self.new) }
@@ -79,6 +81,17 @@ impl<N: Copy + Exact + Hash + Debug, S: Copy + Exact + Hash + Debug> SolverState
         if let Some(variable) = self.find(atom) {
             return Ok(variable);
         }
+        self.add_atom(atom)
+    }
+
+    /// The new variable of an atom that has none.
+    fn add_atom(&mut self, atom: ProofAtom<N, S>) -> R<VariableId>
+        requires coding { IsCoding self.old }
+        requires fresh { IsFound self.old.atoms.keys atom None }
+        ensures given { IfOk result (λ v. Gives atom v self.old self.new) }
+        ensures ids { IsErrOf result Ids → count_of self.old.search ≡ 2147483647 }
+        ensures full { IsErrOf result Ids → LacksNumber self.new }
+    {
         let variable = self.search.add_variable(atom.kind())?;
         self.atoms.push(atom)?;
         Ok(variable)
