@@ -1,7 +1,7 @@
 //! Atoms: what variables represent.
-ghost use Rattle.std.specs.Prelude.{◌≡◌, refl};
+ghost use Rattle.std.specs.Prelude.{◌≡◌, ◌<◌, refl};
 ghost use Rattle.std.proofs.lemmas.Bool.{and_parts, eqb-true};
-ghost use Rattle.resolvo_state.specs.AtomLaws.{alone_atom, indexed_atom, one_atom, one_requirement};
+ghost use Rattle.resolvo_state.specs.AtomLaws.{alone_atom, even_index, fourth_index, gate_index, indexed_atom, one_atom, one_requirement};
 ghost use Rattle.resolvo_state.specs.Atoms.{kind_of};
 ghost use Rattle.resolvo_state.specs.declared.atom.ProofAtom.TheVariants.{Gate};
 
@@ -39,13 +39,15 @@ impl<N: Copy, S: Copy> ProofAtom<N, S> {
 }
 
 impl<N: Exact, S: Exact> Exact for ProofAtom<N, S> {
-    ghost indexed = { indexed_atom S.indexed };
+    ghost indexed = { indexed_atom S.indexed N.indexed };
 
-    ghost alone = { alone_atom S.indexed S.alone };
+    ghost alone = { alone_atom S.indexed N.indexed S.alone N.alone };
 
     fn index(&self) -> Option<u32> {
         match self {
-            ProofAtom::Solvable(solvable) => solvable.index(),
+            ProofAtom::Solvable(solvable) => even_index(solvable.index()),
+            ProofAtom::Gate(requirement) => gate_index(*requirement),
+            ProofAtom::AtLeastOne(name) => fourth_index(name.index(), 3),
             _ => None,
         }
     }
@@ -65,4 +67,48 @@ impl<N: Exact, S: Exact> Exact for ProofAtom<N, S> {
         (λ u. (λ s. refl, λ n. refl, λ r. refl, λ v. refl, λ n b. refl))
         (λ u. (λ s. refl, λ n. refl, λ r. refl, λ v. refl, λ n b. refl))
         (λ m a. (λ s. refl, λ n. refl, λ r. refl, λ v. refl, λ v. refl)) };
+}
+
+/// The index of a solvable's atom: it is even. One that is too large is none.
+fn even_index(index: Option<u32>) -> Option<u32>
+    ensures { result ≡ even_index index }
+{
+    match index {
+        None => None,
+        Some(index) => {
+            if index < 1_073_741_824 {
+                Some(2 * index)
+            } else {
+                None
+            }
+        }
+    }
+}
+
+/// The index of an atom of another kind: every fourth from `first` on. One that is too large is
+/// none.
+fn fourth_index(index: Option<u32>, first: u32) -> Option<u32>
+    requires { first < 4 }
+    ensures { result ≡ fourth_index first index }
+{
+    match index {
+        None => None,
+        Some(index) => {
+            if index < 1_073_741_824 {
+                Some(4 * index + first)
+            } else {
+                None
+            }
+        }
+    }
+}
+
+/// The index of a gate's atom.
+fn gate_index(requirement: Requirement) -> Option<u32>
+    ensures { result ≡ gate_index requirement }
+{
+    match requirement {
+        Requirement::Single(version_set) => fourth_index(Some(version_set.0), 1),
+        Requirement::Union(_) => None,
+    }
 }
