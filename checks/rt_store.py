@@ -6,6 +6,7 @@
     checks/rt_store.py front CRATE ..      the quick pass over the sources: what needs no proof to find
     checks/rt_store.py take                takes into the store the libraries that rt ci proved of this very text on this machine, where the
                                            kit keeps them (13f does, 13b doesn't)
+    checks/rt_store.py plant [WORD ..]     `rt plant` in a crate's folder, over the store: by itself it proves each library below anew
     checks/rt_store.py WORD ..             anything else is done by rt, in a crate's folder, over the store
 
 The first four run at the top of the repository. A library is kept as its statements, under a sum of its text and of what it
@@ -28,6 +29,7 @@ import sys
 import tempfile
 import threading
 import time
+import types
 from concurrent.futures import FIRST_COMPLETED, ThreadPoolExecutor, wait
 
 STORE = os.environ.get("RT_STORE", os.path.expanduser("~/.cache/resolve-libraries"))
@@ -280,7 +282,24 @@ def take():
     return 0
 
 
+def plant(words):
+    """Runs the kit's `rt plant` in this process, whose crates find the store. The kit runs it in another one."""
+    path = f"{rt.KIT}/bin/rt-plant"
+    with open(path, encoding="utf-8") as it:
+        text = it.read()
+    module = types.ModuleType("rt_plant")
+    module.__file__, module.RTLIB = path, rtlib
+    load = 'load("rtlib.py")'
+    if load not in text:
+        print("rt_store: this kit's rt plant has another form", file=sys.stderr)
+        return 1
+    exec(compile(text.replace(load, "RTLIB"), path, "exec"), module.__dict__)  # pylint: disable=exec-used
+    return module.main(*words)
+
+
 if __name__ == "__main__":
+    if sys.argv[1:2] == ["plant"]:
+        sys.exit(plant(sys.argv[2:]))
     if sys.argv[1:2] == ["libs"]:
         sys.exit(libs(sys.argv[2:]))
     if sys.argv[1:2] == ["tests"]:
