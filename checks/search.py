@@ -1,12 +1,13 @@
 #!/usr/bin/env python3
 """Compares what `resolve solve` answers with the plain search of plain_search.py, over generated pairs and kept ones.
 
-Usage: checks/search.py [PAIRS] [--seed N] [--program PATH]
+Usage: checks/search.py [PAIRS] [--seed N] [--marked] [--program PATH]
        checks/search.py --kept [--program PATH]
        checks/search.py --rows
 Defaults: 1000 pairs, seed 1, crates/resolve/out/resolve (which `rt run` leaves).
 It counts the pairs whose entries, left-out wishes, named lines, message or steps differ from those of the search by the rules, and
-prints the smallest one. Each byte must be equal, else the status is 1. With `--kept` it runs the examples of checks/search, which
+prints the smallest one. Each byte must be equal, else the status is 1. A tenth of the pairs has packages that are marked `many`; with
+`--marked` each pair has. With `--kept` it runs the examples of checks/search, which
 search/README.md describes. With `--rows` the plain search answers the rows of the gate, without a program: each as the row expects.
 """
 from __future__ import annotations
@@ -153,6 +154,13 @@ def pairs_of(seed: int, count: int) -> Iterator[tuple[str, Pair]]:
             yield "coloured", coloured_texts(rng)
 
 
+def marked_pairs(seed: int, count: int) -> Iterator[tuple[str, Pair]]:
+    """Pairs that all may have marks."""
+    rng = random.Random(f"marks {seed}")
+    for _ in range(count):
+        yield "marked", marked_texts(rng)
+
+
 # ---- comparing
 
 
@@ -250,7 +258,7 @@ def print_smallest(counts: Counts, program: str) -> None:
 
 def run_pairs(arguments: argparse.Namespace) -> int:
     """Compares over generated pairs; the status."""
-    pairs = list(pairs_of(arguments.seed, arguments.pairs))
+    pairs = list((marked_pairs if arguments.marked else pairs_of)(arguments.seed, arguments.pairs))
     found, verdicts = compare(pairs, arguments.program)
     print(f"{len(pairs)} pairs, {verdicts['install']} installed, {verdicts['refused']} refused; differing from the search by the rules:")
     print(heading())
@@ -388,6 +396,7 @@ def main() -> int:
     parser = argparse.ArgumentParser(description=__doc__, formatter_class=argparse.RawDescriptionHelpFormatter)
     parser.add_argument("pairs", nargs="?", type=int, default=1000)
     parser.add_argument("--seed", type=int, default=1)
+    parser.add_argument("--marked", action="store_true")
     parser.add_argument("--kept", action="store_true")
     parser.add_argument("--rows", action="store_true")
     parser.add_argument("--program", default=os.path.join(HERE, "../crates/resolve/out/resolve"))
