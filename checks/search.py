@@ -6,9 +6,9 @@ Usage: checks/search.py [PAIRS] [--seed N] [--marked] [--program PATH]
        checks/search.py --rows
 Defaults: 1000 pairs, seed 1, crates/resolve/out/resolve (which `rt run` leaves).
 It counts the pairs whose entries, left-out wishes, named lines, message or steps differ from those of the search by the rules, and
-prints the smallest one. Each byte must be equal, else the status is 1. A tenth of the pairs has packages that are marked `many`; with
-`--marked` each pair has. With `--kept` it runs the examples of checks/search, which
-search/README.md describes. With `--rows` the plain search answers the rows of the gate, without a program: each as the row expects.
+prints the smallest one. Each byte must be equal, else the status is 1. A tenth of the pairs are of the kind whose packages may be
+marked `many`; with `--marked` all are. With `--kept` it runs the examples of checks/search, which search/README.md describes. With
+`--rows` the plain search answers the rows of the gate, without a program: each as the row expects.
 """
 from __future__ import annotations
 
