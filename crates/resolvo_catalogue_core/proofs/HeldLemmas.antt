@@ -11,7 +11,7 @@ use Rattle.resolvo_pool_core.specs.declared.id.VersionSetId.{VersionSetId}
 use Rattle.resolvo_pool_core.specs.declared.id.VersionSetUnionId.{VersionSetUnionId}
 use Rattle.resolvo_catalogue_core.specs.declared.rule.VersionNo.{VersionNo}
 use Rattle.resolvo_catalogue_core.specs.declared.kept_rule.KeptRule.{KeptRule}
-use Rattle.resolvo_catalogue_core.specs.declared.line_table.StoredLine.{StoredLine}
+use Rattle.resolvo_catalogue_core.specs.declared.stored_lines.StoredLine.{StoredLine}
 use Rattle.resolvo_catalogue_core.specs.LineKind.{LineKind}
 use Rattle.resolvo_catalogue_core.specs.LineKind as line_kinds
 use Rattle.resolvo_catalogue_core.specs.Held.{is_held, are_held, kind_of_rule, kind_of_name, kind_in, kind_list, held_at, kind_at, rule_of}

@@ -2,6 +2,7 @@ pub mod Pushed
 pub mod Sorted
 pub mod PackageLemmas
 pub mod OwnedLemmas
+pub mod PackedLemmas
 pub mod HeldLemmas
 pub mod VersionLemmas
 pub mod NumberedLemmas

@@ -12,7 +12,7 @@ use Rattle.resolvo_catalogue_core.specs.declared.kept_rule.KeptRule.{KeptRule}
 use Rattle.resolvo_catalogue_core.specs.declared.kept_rule.KeptRule.TheVariants as kept
 use Rattle.resolvo_catalogue_core.specs.LineKind.{LineKind}
 use Rattle.resolvo_catalogue_core.specs.LineKind as line_kinds
-use Rattle.resolvo_catalogue_core.specs.declared.line_table.StoredLine.{StoredLine}
+use Rattle.resolvo_catalogue_core.specs.declared.stored_lines.StoredLine.{StoredLine}
 
 -- a rule's place is one of so many, and so is that of a marked package's name
 abbrev pub is_held : ℕ → ℕ → StoredLine → Bool

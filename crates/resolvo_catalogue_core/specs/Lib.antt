@@ -1,5 +1,6 @@
 pub mod Grammar
 pub mod LineKind
+pub mod Packed
 pub mod Held
 pub mod Rules
 pub mod Sets

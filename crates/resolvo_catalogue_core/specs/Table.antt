@@ -34,7 +34,7 @@ abbrev pub versions_in : Table → List Version
 versions_in t = kept_versions t.terms.names t.versions.items
 
 abbrev pub kinds_in : Table → List LineKind
-kinds_in t = kind_list t.line_kinds.rules.items t.line_kinds.marked.items t.line_kinds.held.items
+kinds_in t = kind_list t.line_kinds.rules.items t.line_kinds.marked.items t.line_kinds.held
 
 abbrev pub lines_in : Table → List Line
 lines_in t = map (line_of t.terms (versions_in t)) (kinds_in t)

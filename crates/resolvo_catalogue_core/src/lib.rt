@@ -14,6 +14,7 @@ mod picked;
 mod request;
 mod request_lines;
 mod rule;
+mod stored_lines;
 mod table;
 mod version_list;
 mod versions;

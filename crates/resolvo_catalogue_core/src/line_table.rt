@@ -1,41 +1,17 @@
 //! The parsed lines, with the longer rules in a list of their own: most lines take little memory. The
 //! model is `kind_list`, the list of the parsed lines. Used by `table`.
 
-ghost use Rattle.std.specs.Prelude.{◌≡◌, ◌++◌, ◌∷◌, [], length, true, OnOk, option_and_then, option_copied, slice_get};
+ghost use Rattle.std.specs.Prelude.{◌≡◌, ◌++◌, ◌∷◌, [], length, true, OnOk, option_and_then, slice_get};
 ghost use Rattle.resolvo_catalogue_core.specs.Held.{is_held, are_held, held_at, kind_in, kind_list, kind_at, plain, rule_of};
 ghost use Rattle.resolvo_catalogue_core.specs.LineKind as kind;
 ghost use Rattle.resolvo_catalogue_core.specs.declared.kept_rule.KeptRule.TheVariants as kept;
 
 use crate::kept_rule::KeptRule;
 use crate::rule::VersionNo;
-use resolvo_pool_core::id::{VersionSetId, VersionSetUnionId};
+use crate::stored_lines::{StoredLine, StoredLines};
 use resolvo_pool_core::requirement::{ConditionalRequirement, Requirement};
 use resolvo_terms::place_of;
 use std::alloc::{AllocError, Global};
-
-/// The stored form of a line. A need without condition and a limit are stored whole; of another rule
-/// its place among the rules, of a marked package that of its name.
-#[derive(Clone, Copy, Debug)]
-pub enum StoredLine {
-    Nothing,
-    Listed(VersionNo),
-    Favour(VersionNo),
-    Many(u32),
-    Need {
-        owner: VersionNo,
-        spec: VersionSetId,
-    },
-    /// A need of one of several SPECs.
-    AnyOf {
-        owner: VersionNo,
-        union: VersionSetUnionId,
-    },
-    Limit {
-        owner: VersionNo,
-        spec: VersionSetId,
-    },
-    Rule(u32),
-}
 
 /// A need without condition.
 fn plain(owner: VersionNo, requirement: Requirement) -> KeptRule
@@ -52,19 +28,19 @@ fn plain(owner: VersionNo, requirement: Requirement) -> KeptRule
 
 #[derive(Drop)]
 pub struct LineTable {
-    held: Vec<StoredLine>,
+    held: StoredLines,
     rules: Vec<KeptRule>,
     /// The names of the packages that are marked `many`.
     marked: Vec<String>,
-    ghost in_range: { are_held (length rules.items) (length marked.items) held.items ≡ true },
+    ghost in_range: { are_held (length rules.items) (length marked.items) held ≡ true },
 }
 
 impl LineTable {
     pub fn new(alloc: Global) -> Self
-        ensures { kind_list result.rules.items result.marked.items result.held.items ≡ [] }
+        ensures { kind_list result.rules.items result.marked.items result.held ≡ [] }
     {
         LineTable {
-            held: Vec::new(alloc),
+            held: StoredLines::new(alloc),
             rules: Vec::new(alloc),
             marked: Vec::new(alloc),
         }
@@ -72,7 +48,7 @@ impl LineTable {
 
     /// How many lines there are.
     pub fn len(&self) -> usize
-        ensures { result ≡ length (kind_list self.now.rules.items self.now.marked.items self.now.held.items) }
+        ensures { result ≡ length (kind_list self.now.rules.items self.now.marked.items self.now.held) }
     {
         self.held.len()
     }
@@ -82,8 +58,8 @@ impl LineTable {
     pub fn hold(&mut self, held: StoredLine) -> Result<(), AllocError>
         requires { is_held (length self.old.rules.items) (length self.old.marked.items) held ≡ true }
         ensures { OnOk result
-            (kind_list self.new.rules.items self.new.marked.items self.new.held.items
-            ≡ kind_list self.old.rules.items self.old.marked.items self.old.held.items ++ kind_in self.old.rules.items
+            (kind_list self.new.rules.items self.new.marked.items self.new.held
+            ≡ kind_list self.old.rules.items self.old.marked.items self.old.held ++ kind_in self.old.rules.items
             self.old.marked.items held
             ∷ []) }
     {
@@ -98,8 +74,8 @@ impl LineTable {
         need: ConditionalRequirement,
     ) -> Result<(), AllocError>
         ensures { OnOk result
-            (kind_list self.new.rules.items self.new.marked.items self.new.held.items
-            ≡ kind_list self.old.rules.items self.old.marked.items self.old.held.items ++ kind.Rule (kept.Needs owner need)
+            (kind_list self.new.rules.items self.new.marked.items self.new.held
+            ≡ kind_list self.old.rules.items self.old.marked.items self.old.held ++ kind.Rule (kept.Needs owner need)
             ∷ []) }
     {
         match need {
@@ -118,8 +94,8 @@ impl LineTable {
     /// Adds a rule that has a place among the rules.
     pub fn push_long(&mut self, rule: KeptRule) -> Result<(), AllocError>
         ensures { OnOk result
-            (kind_list self.new.rules.items self.new.marked.items self.new.held.items
-            ≡ kind_list self.old.rules.items self.old.marked.items self.old.held.items ++ kind.Rule rule
+            (kind_list self.new.rules.items self.new.marked.items self.new.held
+            ≡ kind_list self.old.rules.items self.old.marked.items self.old.held ++ kind.Rule rule
             ∷ []) }
     {
         let place = place_of(self.rules.len())?;
@@ -131,8 +107,8 @@ impl LineTable {
     /// Adds the mark of the package of this name.
     pub fn push_marked(&mut self, name: String) -> Result<(), AllocError>
         ensures { OnOk result
-            (kind_list self.new.rules.items self.new.marked.items self.new.held.items
-            ≡ kind_list self.old.rules.items self.old.marked.items self.old.held.items ++ kind.Many name
+            (kind_list self.new.rules.items self.new.marked.items self.new.held
+            ≡ kind_list self.old.rules.items self.old.marked.items self.old.held ++ kind.Many name
             ∷ []) }
     {
         let place = place_of(self.marked.len())?;
@@ -142,8 +118,8 @@ impl LineTable {
     }
 
     /// The stored form of the line of this number, from 1.
-    fn held_at(&self, line: u32) -> Option<&StoredLine>
-        ensures { option_copied result ≡ held_at self.now.held.items line }
+    fn held_at(&self, line: u32) -> Option<StoredLine>
+        ensures { result ≡ held_at self.now.held line }
     {
         if line == 0 {
             return None;
@@ -161,10 +137,10 @@ impl LineTable {
     pub fn rule(&self, line: u32) -> Option<KeptRule>
         ensures { result
             ≡ option_and_then rule_of
-            (kind_at (kind_list self.now.rules.items self.now.marked.items self.now.held.items) line) }
+            (kind_at (kind_list self.now.rules.items self.now.marked.items self.now.held) line) }
     {
         let held = self.held_at(line)?;
-        match *held {
+        match held {
             StoredLine::Need { owner, spec } => Some(plain(owner, Requirement::Single(spec))),
             StoredLine::AnyOf { owner, union } => Some(plain(owner, Requirement::Union(union))),
             StoredLine::Limit { owner, spec } => Some(KeptRule::Limits { owner, spec }),

@@ -20,11 +20,12 @@ ghost use Rattle.resolvo_catalogue_core.specs.Picked.{IsPicked};
 ghost use Rattle.resolvo_catalogue_core.specs.Table.{number_in, package_named};
 
 use crate::kept_rule::KeptRule;
-use crate::line_table::{LineTable, StoredLine};
+use crate::line_table::LineTable;
 use crate::lines_by_version::LinesByVersion;
 use crate::package::Package;
 use crate::package_table::PackageTable;
 use crate::rule::VersionNo;
+use crate::stored_lines::StoredLine;
 use crate::versions::{KeptVersion, Versions};
 use resolvo_pool_core::id::{NameId, VersionSetId};
 use resolvo_pool_core::requirement::ConditionalRequirement;
