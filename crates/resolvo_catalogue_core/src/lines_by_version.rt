@@ -93,9 +93,12 @@ impl LinesByVersion {
         ensures added { OnOk result ((k : ℕ) → kept_of self.new k ≡
             (if version.0 == k then kept_of self.old k ++ line ∷ [] else kept_of self.old k)) }
     {
-        let end = place_of(self.lines.len() + 1)?;
+        let count = self.lines.len();
+        if count >= 4_294_967_295 {
+            return Err(AllocError);
+        }
         self.lines.push(line)?;
-        self.ends[version.0 as usize] = end;
+        self.ends[version.0 as usize] = (count + 1) as u32;
         Ok(())
     }
 }

@@ -18,18 +18,18 @@ invariant_of-self-2 c =
     let n = c.args.version.0 in
     let old : lists_from xs 0 ends ≡ c.args.self.now = c.self.view_is in
     let last : n + 1 ≡ length ends = omega (arith, count_lists xs 0 ends, ap length old, c.requires) in
-    let end : c.in_ok-end.end ≡ length xs + 1 = omega (arith, c.self.inside.lines.ok.0, c.len.ensures, c.in_ok-end.ensures) in
+    let end : c.len-count.result + 1 ≡ length xs + 1 = omega (arith, c.self.inside.lines.ok.0, c.len-count.ensures) in
     let long : length c.push.new.self.items ≡ length xs + 1 = ap length c.in_ok-push.ensures.items ∙ length-append xs (c.args.line ∷ []) in
-    subst (λ (count : ℕ). AreEnds 0 (slice_set ends n c.in_ok-end.end) count) (sym long)
+    subst (λ (count : ℕ). AreEnds 0 (slice_set ends n (c.len-count.result + 1)) count) (sym long)
     (subst (λ (e : ℕ). AreEnds 0 (slice_set ends n e) (length xs + 1)) (sym end) (later 0 ends n (length xs) c.self.invariant last))
 
 pub returns-clause-same : goal.returns-clause-same
 returns-clause-same c =
     let xs = c.self.inside.lines.items in
     let ends = c.self.inside.ends.items in
-    let set = slice_set ends c.args.version.0 c.in_ok-end.end in
+    let set = slice_set ends c.args.version.0 (c.len-count.result + 1) in
     let old : lists_from xs 0 ends ≡ c.args.self.now = c.self.view_is in
-    count_lists c.push.new.self.items 0 set ∙ set_length ends c.args.version.0 c.in_ok-end.end ∙ sym (count_lists xs 0 ends) ∙ ap length old
+    count_lists c.push.new.self.items 0 set ∙ set_length ends c.args.version.0 (c.len-count.result + 1) ∙ sym (count_lists xs 0 ends) ∙ ap length old
 
 pub returns-clause-added : goal.returns-clause-added
 returns-clause-added c = λ k.
@@ -38,5 +38,5 @@ returns-clause-added c = λ k.
     let n = c.args.version.0 in
     let old : lists_from xs 0 ends ≡ c.args.self.now = c.self.view_is in
     let last : n + 1 ≡ length ends = omega (arith, count_lists xs 0 ends, ap length old, c.requires) in
-    let end : c.in_ok-end.end ≡ length xs + 1 = omega (arith, c.self.inside.lines.ok.0, c.len.ensures, c.in_ok-end.ensures) in
+    let end : c.len-count.result + 1 ≡ length xs + 1 = omega (arith, c.self.inside.lines.ok.0, c.len-count.ensures) in
     rw (c.in_ok-push.ensures.items, end, ← old) (added xs c.args.line 0 ends n c.self.invariant last k)
