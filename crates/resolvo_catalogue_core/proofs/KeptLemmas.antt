@@ -143,7 +143,7 @@ in_range count [] k v all at = absurd cc
 in_range count (w ∷ vs) zero v all at = subst (λ (x : KeptVersion). x.«package».raw < count) (same_Some w v at) (below w.«package».raw count (and_parts (is_kept count w) (are_kept count vs) all).0)
 in_range count (w ∷ vs) (suc k) v all at = in_range count vs k v (and_parts (is_kept count w) (are_kept count vs) all).1 at
 
-past_places : (ps : List (Option Package)) (n : ℕ) → length ps ≤ n → package_at ps n ≡ None
+past_places : (ps : List Package) (n : ℕ) → length ps ≤ n → package_at ps n ≡ None
 past_places [] n past = refl
 past_places (p ∷ ps) zero past = absurd (omega (arith, past))
 past_places (p ∷ ps) (suc n) past = past_places ps n (omega (arith, past))
@@ -176,7 +176,7 @@ package_places t keeps n = elim (cases_lt n (length names)) [
     names : List (List ℕ)
     names = t.terms.names
 
-    places : List (Option Package)
+    places : List Package
     places = t.packages.places.items
 
     vs : List KeptVersion

@@ -10,7 +10,7 @@ use Rattle.std.proofs.lemmas.Bool.Decides.{Decides-eqb, nat_tests}
 use Rattle.std.proofs.lemmas.List.{length-append, length-take, map_push, take_more, get_or-take, get_or_default, get_or_push, get_or_append_left}
 use Rattle.std.proofs.lemmas.List.Sorted.{searched}
 use Rattle.resolvo_catalogue_core.specs.declared.rule.VersionNo.{VersionNo}
-use Rattle.resolvo_catalogue_core.specs.declared.package.Package.TheVariants.{One, Several}
+use Rattle.resolvo_catalogue_core.specs.declared.package.Package.TheVariants.{Absent, One}
 use Rattle.resolvo_catalogue_core.specs.declared.version_list.VersionList.{VersionList}
 use Rattle.resolvo_catalogue_core.specs.Numbered.{beside, AreRising, IsAbove, IsSought, AreNumbered}
 use Rattle.resolvo_catalogue_core.specs.Questions.{number_of}
@@ -153,9 +153,9 @@ mapped p q n v m kept new updated numbers versions is =
 
 -- ---- one version alone
 
--- a package of one version
-pub one_added : (n : ℕ) (v : VersionNo) → AddsNumber None n v (One n v)
-one_added n v = record { kept = tt; numbers = λ k. choose (n == k); all = refl }
+-- the first version of a package
+pub first_added : (n : ℕ) (v : VersionNo) → AddsNumber (Some Absent) n v (One n v)
+first_added n v = record { kept = tt; numbers = λ k. choose (n == k); all = refl }
   where
     choose : (b : Bool) → option_map number_of (if b then Some v else None) ≡ (if b then Some v.0 else None)
     choose true = refl

@@ -491,7 +491,7 @@ empty t sound versions kinds places locks favoured many excluded unknown owned f
       listing = refl;
       kinds = λ n s at. absurd (no_kind n s (rw kinds at at));
       packages = λ name. record { kept = λ p is. no_package (package_named t name) p (packages name) is; numbers = λ k. no_only _ _ (ap (λ (o : Option Package). number_in o k) (packages name)) (λ n at. none_got n (record { name = name; number = k }) at); all = subst (λ (o : Option Package). AreAll (numbers_in o) (IsOfPackage [] name)) (sym (packages name)) (no_all (IsOfPackage [] name) (λ n h. none_got n h.0 h.1)) };
-      places = omega (arith, ap (λ (ps : List (Option Package)). length ps) places);
+      places = omega (arith, ap (λ (ps : List Package). length ps) places);
       named = rw versions refl;
       locks = λ name. no_only _ _ (rw locks refl) (no_line (Locks name));
       favoured = λ name. no_only _ _ (rw favoured refl) (no_line (Favours name));

@@ -4,7 +4,7 @@ use Rattle.std.specs.BTreeMap.{BTreeMap, get}
 use Rattle.std.specs.Ordering.{nat_cmp}
 use Rattle.resolvo_catalogue_core.specs.declared.rule.VersionNo.{VersionNo}
 use Rattle.resolvo_catalogue_core.specs.declared.package.Package.{Package}
-use Rattle.resolvo_catalogue_core.specs.declared.package.Package.TheVariants.{One, Several}
+use Rattle.resolvo_catalogue_core.specs.declared.package.Package.TheVariants.{Absent, One, Several}
 use Rattle.resolvo_catalogue_core.specs.declared.version_list.VersionList.{VersionList}
 
 -- the version beside the first number that is this one
@@ -31,16 +31,25 @@ pub record AreNumbered (l : VersionList) : Type 0 where
   pub paired : length l.numbers.items ≡ length l.versions.items
   pub sought : IsSought l.by_number l.numbers.items l.versions.items
 
+-- a package that has a version
+abbrev pub present : Package → Option Package
+present Absent = None
+present (One n v) = Some (One n v)
+present (Several l) = Some (Several l)
+
 -- the numbers of a package's versions
 abbrev pub numbers_of : Package → List ℕ
+numbers_of Absent = []
 numbers_of (One n v) = n ∷ []
 numbers_of (Several l) = l.value.numbers.items
 
 -- its versions
 abbrev pub versions_of : Package → List VersionNo
+versions_of Absent = []
 versions_of (One n v) = v ∷ []
 versions_of (Several l) = l.value.versions.items
 
 abbrev pub IsNumbered : Package → Type 0
+IsNumbered Absent = ⊤
 IsNumbered (One n v) = ⊤
 IsNumbered (Several l) = AreNumbered l.value

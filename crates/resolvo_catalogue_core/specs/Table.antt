@@ -90,7 +90,7 @@ pub record AddsVersion (before : List ℕ → Option Package) (version : Version
   pub others : (name : List ℕ) → bytes_eq version.name name ≡ false → after name ≡ before name
 
 -- The package at this number has this version besides those that it had, and no other package is changed.
-pub record PutsVersion (before : List (Option Package)) (at number : ℕ) (version : VersionNo) (after : List (Option Package)) : Type 0 where
+pub record PutsVersion (before : List Package) (at number : ℕ) (version : VersionNo) (after : List Package) : Type 0 where
   pub added : (p : Package) × (package_at after at ≡ Some p) × AddsNumber (package_at before at) number version p
   pub others : (n : ℕ) → (at ≡ n → ⊥) → package_at after n ≡ package_at before n
 

@@ -1,12 +1,13 @@
-//! The versions of a package. Most packages have one, which takes no lists of its own.
+//! The versions of a package. Most packages have one, which takes no lists of its own; a name that
+//! is only spoken of has none.
 //! Their model is the list of their numbers and that of the versions, `numbers_of` and `versions_of`.
 //! Used by `package_table`.
 
-ghost use Rattle.std.specs.Prelude.{◌≡◌, Some, IsTrue, IfOk, OnOk, not, is_some, true, false};
+ghost use Rattle.std.specs.Prelude.{◌≡◌, Some, IsTrue, IfOk, OnOk, not, is_some, true, false, option_copied};
 ghost use Rattle.std.specs.Ordering.{nat_cmp};
 ghost use Rattle.std.specs.BTreeMap.Range.{range_contains, IsLeBy, IsLtBy};
 ghost use Rattle.std.specs.Range.Bound.{IsForward};
-ghost use Rattle.resolvo_catalogue_core.specs.Numbered.{beside, numbers_of, versions_of, IsNumbered};
+ghost use Rattle.resolvo_catalogue_core.specs.Numbered.{beside, numbers_of, present, versions_of, IsNumbered};
 ghost use Rattle.resolvo_catalogue_core.specs.Picked.{IsAmong, AddsEach, HasEach, is_picked};
 ghost use Rattle.resolvo_catalogue_core.specs.Table.{AddsNumber};
 
@@ -21,16 +22,29 @@ use std::ops::Bound;
 
 #[derive(Drop)]
 pub enum Package {
+    Absent,
     One { number: u32, version: VersionNo },
     Several(Box<VersionList>),
 }
 
 impl Package {
+    /// The package, if it has a version.
+    pub fn present(&self) -> Option<&Package>
+        ensures { option_copied result ≡ present self.now }
+    {
+        match self {
+            Package::Absent => None,
+            Package::One { .. } => Some(self),
+            Package::Several(_) => Some(self),
+        }
+    }
+
     /// The versions in line order.
     pub fn versions(&self) -> &[VersionNo]
         ensures { result.now ≡ versions_of self.now }
     {
         match self {
+            Package::Absent => &[],
             Package::One { version, .. } => array::from_ref(version),
             Package::Several(list) => list.versions(),
         }
@@ -42,6 +56,7 @@ impl Package {
         ensures { result ≡ beside (numbers_of self.now) (versions_of self.now) number }
     {
         match self {
+            Package::Absent => None,
             Package::One {
                 number: of,
                 version,
@@ -65,6 +80,7 @@ impl Package {
             out.new) }
     {
         match self {
+            Package::Absent => add_rising(&[], &[], start, end, out),
             Package::One { number, version } => add_rising(
                 array::from_ref(number),
                 array::from_ref(version),
@@ -157,6 +173,7 @@ impl Package {
     }
 
     /// Adds a version, if the package has none of this number; says whether it did.
+    #[tactic(auto, using(crate::proofs::NumberedLemmas::first_added))]
     pub fn add(
         &mut self,
         alloc: Global,
@@ -173,6 +190,10 @@ impl Package {
             → AddsNumber (Some self.old) number version self.new) }
     {
         match self {
+            Package::Absent => {
+                *self = Package::One { number, version };
+                Ok(true)
+            }
             Package::One {
                 number: of,
                 version: first,

@@ -2,7 +2,7 @@
 //! once, there, and no package keeps it. Used by `table`.
 
 ghost use Rattle.std.specs.Prelude.{◌≡◌, ℕ, ◌<◌, ◌≤◌, [], not, length, option_copied, is_some, IsTrue, IfOk, OnOk, Some};
-ghost use Rattle.resolvo_catalogue_core.specs.Numbered.{IsNumbered};
+ghost use Rattle.resolvo_catalogue_core.specs.Numbered.{present, IsNumbered};
 ghost use Rattle.resolvo_catalogue_core.specs.Packages.{package_at};
 ghost use Rattle.resolvo_catalogue_core.specs.Table.{AddsNumber, PutsVersion, number_in};
 ghost use Rattle.resolvo_catalogue_core.specs.declared.package.Package.{Package};
@@ -14,13 +14,13 @@ use std::alloc::{AllocError, Global};
 
 #[derive(Drop)]
 pub struct PackageTable {
-    /// The package of each name, by the number of the name. A name has none before a version of it
-    /// is listed, and the last names may have no place.
-    pub places: Vec<Option<Package>>,
+    /// The package of each name, by the number of the name. It is absent before a version of it is
+    /// listed, and the last names may have no place.
+    pub places: Vec<Package>,
 }
 
 /// Makes a list of places this long, where it is shorter. The new places are empty.
-fn lengthen(places: &mut Vec<Option<Package>>, count: usize) -> Result<(), AllocError>
+fn lengthen(places: &mut Vec<Package>, count: usize) -> Result<(), AllocError>
     ensures same { (n : ℕ) → package_at places.new.items n ≡ package_at places.old.items n }
     ensures long { OnOk result (count ≤ length places.new.items) }
     ensures few { (bound : ℕ)
@@ -29,34 +29,28 @@ fn lengthen(places: &mut Vec<Option<Package>>, count: usize) -> Result<(), Alloc
         → length places.new.items ≤ bound }
 {
     for _ in places.len()..count {
-        places.push(None)?;
+        places.push(Package::Absent)?;
     }
     Ok(())
 }
 
-/// Adds a version to those of a package, if it isn't listed; says whether it did. Where there is no
-/// package it makes one.
-#[tactic(auto, using(crate::proofs::NumberedLemmas::one_added))]
+/// Adds a version to those of a place, if it isn't listed; says whether it did.
 fn add_to(
-    place: &mut Option<Package>,
+    place: &mut Package,
     alloc: Global,
     number: u32,
     version: VersionNo,
 ) -> Result<bool, AllocError>
-    requires { (p : Package) → place.old ≡ Some p → IsNumbered p }
-    ensures new { IfOk result (λ added. added ≡ not (is_some (number_in place.old number))) }
+    requires { IsNumbered place.old }
+    ensures new { IfOk result (λ added. added ≡ not (is_some (number_in (present place.old) number))) }
     ensures put { IfOk result
         (λ added.
         IsTrue added
-        → (p : Package) × (place.new ≡ Some p) × AddsNumber place.old number version p) }
+        → (p : Package)
+        × (present place.new ≡ Some p)
+        × AddsNumber (present place.old) number version p) }
 {
-    match place {
-        Some(package) => package.add(alloc, number, version),
-        None => {
-            *place = Some(Package::One { number, version });
-            Ok(true)
-        }
-    }
+    place.add(alloc, number, version)
 }
 
 impl PackageTable {
@@ -73,7 +67,7 @@ impl PackageTable {
         ensures { option_copied result ≡ package_at self.now.places.items name.raw }
     {
         match self.places.get(name.to_index()) {
-            Some(place) => place.as_ref(),
+            Some(place) => place.present(),
             None => None,
         }
     }
