@@ -133,6 +133,7 @@ impl PackedLine {
     }
 }
 
+/// The lines of a catalogue, in their order.
 #[derive(Drop)]
 pub struct StoredLines {
     packed: Vec<PackedLine>,
@@ -149,6 +150,7 @@ impl Model for StoredLines {
 }
 
 impl StoredLines {
+    /// No lines.
     pub fn new(alloc: Global) -> Self
         ensures { result ≡ [] }
     {
