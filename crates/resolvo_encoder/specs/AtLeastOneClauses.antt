@@ -16,7 +16,7 @@ use Rattle.resolvo_state.specs.declared.atom.ProofAtom.TheVariants.{Solvable}
 use Rattle.resolvo_state.specs.Atoms.{origin, Represents}
 use Rattle.resolvo_state.specs.Registered.{AreTied, IsInTracker, IsTracked, IsQueued, IsMany, IsRegistered}
 use Rattle.resolvo_encoder.specs.Cases.{sets_case, AreSets}
-use Rattle.resolvo_encoder.specs.Encoded.{rules_of, IsWaiting, IsPending, IsNamed, IsSetEncoded, IsEncoding}
+use Rattle.resolvo_encoder.specs.Encoded.{rules_of, IsWaiting, IsPending, IsNamed, IsSetEncoded, IsEncoding, StaysEncoding}
 use Rattle.resolvo_encoder.specs.Steps.{IsBuilt, Extends, IsListed}
 use Rattle.resolvo_encoder.specs.declared.conditions.ConditionSet.{ConditionSet}
 use Rattle.resolvo_encoder.specs.declared.encoder.Encoder.{Encoder}
@@ -67,7 +67,7 @@ module _ {N S : Type 0} where
       pub keeps : (n : N) → Contains old.recorded.at_least_one.keys n → Contains new.recorded.at_least_one.keys n
       pub at_least_one : Contains new.recorded.at_least_one.keys name
       pub queued : new.recorded.queued ≡ old.recorded.queued
-      pub encoding : (p : Packages N S) (root : Rules) → IsLawful p → IsEncoding same p root old → IsEncoding same p root new
+      pub encoding : StaysEncoding same old new
 
     -- The package is one of an encoded case.
     pub record NamesPackage (name : N) (old new : Encoder N S) : Type 0 where
@@ -78,7 +78,7 @@ module _ {N S : Type 0} where
       pub keeps : (n : N) → IsNamed old.recorded n → IsNamed new.recorded n
       pub matches : (v : VersionSetId) → Contains old.recorded.matches.keys v → Contains new.recorded.matches.keys v
       pub named : IsNamed new.recorded name
-      pub encoding : (p : Packages N S) (root : Rules) → IsLawful p → IsEncoding same p root old → IsEncoding same p root new
+      pub encoding : StaysEncoding same old new
 
     -- The version set is recorded for its matches. These are clauses where its package is marked `many`.
     pub record HoldsMatches (v : VersionSetId) (matching : List (Offered N S)) (old new : Encoder N S) : Type 0 where
@@ -133,7 +133,7 @@ module _ {N S : Type 0} where
       pub queued : new.recorded.queued ≡ old.recorded.queued
       pub many : new.registry.many ≡ old.registry.many
       pub none : (n : N) (v : VariableId) → IsQueued new.registry n v → ⊥
-      pub encoding : (p : Packages N S) (root : Rules) → IsLawful p → IsEncoding same p root old → IsEncoding same p root new
+      pub encoding : StaysEncoding same old new
 
     -- These packages are recorded, with their at-least-one clauses.
     pub record CoversAll (names : List N) (old new : Encoder N S) : Type 0 where
@@ -144,7 +144,7 @@ module _ {N S : Type 0} where
       pub queued : new.recorded.queued ≡ old.recorded.queued
       pub keeps : (n : N) → Contains old.recorded.at_least_one.keys n → Contains new.recorded.at_least_one.keys n
       pub covered : (n : N) → Contains names n → Contains new.recorded.at_least_one.keys n
-      pub encoding : (p : Packages N S) (root : Rules) → IsLawful p → IsEncoding same p root old → IsEncoding same p root new
+      pub encoding : StaysEncoding same old new
 
     -- No package waits: those that did are recorded, with their at-least-one clauses.
     pub record CoversQueued (old new : Encoder N S) : Type 0 where
@@ -153,4 +153,4 @@ module _ {N S : Type 0} where
       pub lists : new.lists ≡ old.lists
       pub registry : new.registry ≡ old.registry
       pub none : (n : N) → Contains new.recorded.queued.keys n → ⊥
-      pub encoding : (p : Packages N S) (root : Rules) → IsLawful p → IsEncoding same p root old → IsEncoding same p root new
+      pub encoding : StaysEncoding same old new

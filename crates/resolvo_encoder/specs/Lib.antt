@@ -1,6 +1,7 @@
 pub mod Cases
 pub mod Encoded
 pub mod Steps
+pub mod Effects
 pub mod ClauseRules
 pub mod AtLeastOneClauses
 pub mod Conditions

@@ -13,7 +13,7 @@ use Rattle.resolvo_state.specs.Atoms.{Represents}
 use Rattle.resolvo_state.specs.SolverState.{Grows, SameTrail}
 use Rattle.resolvo_state.specs.Registered.{IsTracked}
 use Rattle.resolvo_encoder.specs.declared.encoder.Encoder.{Encoder}
-use Rattle.resolvo_encoder.specs.Encoded.{IsEncoding}
+use Rattle.resolvo_encoder.specs.Encoded.{IsEncoding, StaysEncoding}
 use Rattle.resolvo_encoder.specs.Steps.{IsBuilt, IsListed, Enrols}
 
 -- the encoding with a turn's first level above its trail
@@ -58,7 +58,7 @@ pub record RecordsChosen {N S : Type 0} (same : S → S → Bool) (soft : S) (ol
   pub built : IsBuilt new
   pub softs : new.recorded.softs.items ≡ old.recorded.softs.items ++ soft ∷ []
   pub rest : new ≡ record old { recorded = record old.recorded { softs = new.recorded.softs } }
-  pub encoding : (p : Packages N S) (root : Rules) → IsLawful p → IsEncoding same p root old → IsEncoding same p root new
+  pub encoding : StaysEncoding same old new
 
 -- there is a last soft requirement, and it isn't chosen
 abbrev pub IsUntaken : {N S : Type 0} → Encoder N S → Type 0
@@ -69,4 +69,4 @@ pub record TakesBack {N S : Type 0} (same : S → S → Bool) (old new : Encoder
   pub built : IsBuilt new
   pub softs : (prefix : List S) (s : S) → old.recorded.softs.items ≡ prefix ++ s ∷ [] → new.recorded.softs.items ≡ prefix
   pub rest : new ≡ record old { recorded = record old.recorded { softs = new.recorded.softs } }
-  pub encoding : (p : Packages N S) (root : Rules) → IsLawful p → IsEncoding same p root old → IsEncoding same p root new
+  pub encoding : StaysEncoding same old new

@@ -18,7 +18,6 @@ use Rattle.resolvo_packages.specs.declared.package_source.Offered.{Offered}
 use Rattle.resolvo_packages.specs.PackageSource.{offered_solvables}
 use Rattle.resolvo_pool_core.specs.Provider.{listed}
 use Rattle.resolvo_pool_core.specs.RuleKeeping.{Packages, Rules, IsLawful, is_in, rules_for, is_many}
-use Rattle.resolvo_pool_core.specs.declared.id.VersionSetId.{VersionSetId}
 use Rattle.resolvo_pool_core.specs.declared.requirement.ConditionalRequirement.{ConditionalRequirement}
 use Rattle.resolvo_store_core.specs.Trail.{IsSeenOf}
 use Rattle.resolvo_decide.specs.Queue.{needs_of, IsNew, IsSound, KeepsSound}
@@ -31,8 +30,7 @@ use Rattle.resolvo_state.specs.declared.atom.ProofAtom.TheVariants.{Solvable, Ga
 use Rattle.resolvo_pool_core.specs.Text.{solvable_of}
 use Rattle.resolvo_pool_core.specs.declared.solver_id.SolvableIdOrRoot.{SolvableIdOrRoot}
 use Rattle.resolvo_store_core.specs.AtMostOne.{IsPrefixOf}
-use Rattle.resolvo_sat.specs.SearchEnd.{IsNeedEncoded}
-use Rattle.resolvo_encoder.specs.Encoded.{rules_of, IsParentVariable, IsCondition, IsParentEncoded, IsMarkKnown, IsGuarded, IsEncoding, AreCandidates}
+use Rattle.resolvo_encoder.specs.Encoded.{IsParentVariable, IsCondition, IsParentEncoded, IsMarkKnown, IsEncoding, AreCandidates}
 use Rattle.resolvo_state.specs.Kinds.{Kind}
 use Rattle.resolvo_state.specs.declared.solver_state.SolverState.{SolverState}
 use Rattle.resolvo_state.specs.declared.registry.Registry.{Registry}
@@ -193,16 +191,6 @@ pub record SameButCoding {N S : Type 0} (old new : Encoder N S) : Type 0 where
 pub record Needs {N S : Type 0} (same : S → S → Bool) (p : Packages N S) (root : Rules) (parent : Option S) (need : ConditionalRequirement) : Type 0 where
   pub listed : Contains (rules_for same p root parent).requirements need
   pub free : need.condition ≡ None
-
--- The clauses of the parent's requirement, which has its candidates, are added to those of an
--- encoding.
-abbrev pub RequiresAgain : {N S : Type 0} → (S → S → Bool) → Option S → ConditionalRequirement → Encoder N S → Encoder N S → Type 0
-RequiresAgain {N} {S} same parent need old new = (p : Packages N S) (root : Rules)
-    → IsLawful p
-    → IsEncoding same p root old
-    → has_candidates old.lists need.requirement ≡ true
-    → Needs same p root parent need
-    → IsEncoding same p root new × IsNeedEncoded same p (rules_of new) parent need []
 
 -- the requirement has so many candidates that a solvable uses a gate for it
 abbrev pub is_gated : {N : Type 0} → FixedLists N → Requirement → Bool

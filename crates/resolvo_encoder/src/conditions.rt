@@ -3,15 +3,15 @@
 //! `fired` has the places of the encoded ones.
 ghost use Rattle.std.specs.Prelude.{◌≡◌, ◌<◌, true, false, length, slice_get, Some, OnOk, IfOk, Contains, IsErrOf, IsOkUnless};
 ghost use Rattle.resolvo_pool_core.specs.declared.want.Want.TheVariants.{Memory, Ids};
-ghost use Rattle.resolvo_pool_core.specs.RuleKeeping.{Packages, Rules, IsLawful, rules_for};
+ghost use Rattle.resolvo_pool_core.specs.RuleKeeping.{Packages, Rules};
 ghost use Rattle.resolvo_store_core.specs.Deferred.{candidates_of};
 ghost use Rattle.resolvo_store_core.specs.declared.conditions.DeferredConjunct.{DeferredConjunct};
-ghost use Rattle.resolvo_packages.specs.PackageSource.{AreOffered, offered_solvables};
-ghost use Rattle.resolvo_sat.specs.RuleClauses.{cases_for, AreMatched};
+ghost use Rattle.resolvo_packages.specs.PackageSource.{offered_solvables};
 ghost use Rattle.resolvo_sat.specs.SearchEnd.{IsNeedEncoded};
-ghost use Rattle.resolvo_encoder.specs.Encoded.{rules_of, IsPrepared, IsEncoding};
+ghost use Rattle.resolvo_encoder.specs.Encoded.{rules_of, IsEncoding};
 ghost use Rattle.resolvo_encoder.specs.Steps.{IsBuilt, Extends, AddsCandidates, LacksNumberFor};
-ghost use Rattle.resolvo_encoder.specs.Conditions.{case_of, sets_case, IsDeferred, AreConjuncts, AreSets, Defers, Fires, waiting_count, IsTrueNow, IsOneChosen, IsMetNow, IsSpent, IsKeptOut};
+ghost use Rattle.resolvo_encoder.specs.Effects.{DefersConjuncts, RequiresSets};
+ghost use Rattle.resolvo_encoder.specs.Conditions.{case_of, sets_case, Defers, Fires, waiting_count, IsTrueNow, IsOneChosen, IsMetNow, IsSpent, IsKeptOut};
 ghost use Rattle.resolvo_encoder.specs.declared.encoder.Deferred.{Deferred as Kept};
 
 use crate::encoder::{Deferred, Encoder};
@@ -51,13 +51,7 @@ impl<N: Copy + Exact + Hash + Debug + Drop, S: Copy + Exact + Hash + Debug> Enco
     ) -> R<()>
         requires { IsBuilt self.old }
         ensures encoded { OnOk result
-            ((p : Packages N S) (root : Rules)
-            → IsEncoding S.eq p root self.old
-            → AreConjuncts S.eq p conjuncts.items
-            → Contains (rules_for S.eq p root parent).requirements need
-            → Contains (cases_for S.eq p need) (case_of conjuncts.items)
-            → IsEncoding S.eq p root self.new
-            × IsDeferred self.new parent need (case_of conjuncts.items)) }
+            (DefersConjuncts S.eq parent need conjuncts.items self.old self.new) }
         ensures kept { OnOk result (Defers self.old self.new) }
         ensures built { OnOk result (IsBuilt self.new) }
         ensures refusal { IsOkUnless result Memory }
@@ -154,17 +148,7 @@ impl<N: Copy + Exact + Hash + Debug + Drop, S: Copy + Exact + Hash + Debug> Enco
         requires { IsBuilt self.old }
         // After an answer.
         ensures encoded { OnOk result
-            ((p : Packages N S) (root : Rules)
-            → IsLawful p
-            → IsEncoding S.eq p root self.old
-            → AreSets S.eq p sets.now
-            → AreOffered S.eq p need.requirement offered.now
-            → IsPrepared S.eq p self.old need.requirement
-            → Contains (rules_for S.eq p root parent).requirements need
-            → Contains (cases_for S.eq p need) (sets_case sets.now)
-            → AreMatched S.eq p (sets_case sets.now)
-            → IsEncoding S.eq p root self.new
-            × IsNeedEncoded S.eq p (rules_of self.new) parent need (sets_case sets.now)) }
+            (RequiresSets S.eq parent need sets.now offered.now self.old self.new) }
         ensures candidates { OnOk result (AddsCandidates need.requirement offered.now self.old self.new) }
         ensures kept { OnOk result (Extends self.old self.new) }
         ensures built { OnOk result (IsBuilt self.new) }

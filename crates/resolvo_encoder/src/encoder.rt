@@ -11,17 +11,15 @@ ghost use Rattle.resolvo_store_core.specs.Clauses.{no, candidate_literals};
 ghost use Rattle.resolvo_store_core.specs.Lists.{has_candidates, candidates_in, condition_in, IsEmpty};
 ghost use Rattle.resolvo_sat.specs.State.{count_of};
 ghost use Rattle.resolvo_sat.specs.Steps.{AreInRange};
-ghost use Rattle.resolvo_packages.specs.PackageSource.{AreOffered};
-ghost use Rattle.resolvo_sat.specs.RuleClauses.{Rule, IsRule};
-ghost use Rattle.resolvo_sat.specs.SearchEnd.{IsNeedEncoded};
 ghost use Rattle.resolvo_state.specs.declared.atom.ProofAtom.TheVariants.{Gate};
 ghost use Rattle.resolvo_state.specs.Atoms.{Represents};
-ghost use Rattle.resolvo_encoder.specs.Encoded.{rules_of, IsPrepared, IsEncoding};
+ghost use Rattle.resolvo_encoder.specs.Encoded.{IsEncoding};
 ghost use Rattle.resolvo_state.specs.ClauseKinds.{rule_of};
 ghost use Rattle.resolvo_state.specs.StoredKinds.{plain_kind, IsPlain};
 ghost use Rattle.resolvo_state.specs.Kinds.{Kind};
 ghost use Rattle.resolvo_state.specs.SolverState.{IsBegun, IsCoding, LacksNumber};
-ghost use Rattle.resolvo_encoder.specs.Steps.{Fixes, EncodesNeed, IsBuilt, Needs, Extends, NeedsDirectly, RequiresAgain, UsesGate, is_gated, Opens, AddsCandidates, IsBegunEncoding, AddsParent, IsNextEncoded, LacksNumberFor};
+ghost use Rattle.resolvo_encoder.specs.Effects.{RequiresOffered, RequiresAgain, SharesGate};
+ghost use Rattle.resolvo_encoder.specs.Steps.{Fixes, EncodesNeed, IsBuilt, Needs, Extends, NeedsDirectly, UsesGate, is_gated, Opens, AddsCandidates, IsBegunEncoding, AddsParent, IsNextEncoded, LacksNumberFor};
 
 use crate::fired_cases::FiredCases;
 use indexmap::IndexSet;
@@ -199,14 +197,7 @@ impl<N: Copy + Exact + Hash + Debug + Drop, S: Copy + Exact + Hash + Debug> Enco
         requires { IsBuilt self.old }
         // After an answer.
         ensures encoded { OnOk result
-            ((p : Packages N S) (root : Rules)
-            → IsLawful p
-            → IsEncoding S.eq p root self.old
-            → AreOffered S.eq p need.requirement offered.now
-            → IsPrepared S.eq p self.old need.requirement
-            → Needs S.eq p root parent need
-            → IsEncoding S.eq p root self.new
-            × IsNeedEncoded S.eq p (rules_of self.new) parent need []) }
+            (RequiresOffered S.eq parent need offered.now self.old self.new) }
         ensures candidates { OnOk result (AddsCandidates need.requirement offered.now self.old self.new) }
         ensures kept { OnOk result (Extends self.old self.new) }
         ensures built { OnOk result (IsBuilt self.new) }
@@ -392,13 +383,7 @@ impl<N: Copy + Exact + Hash + Debug + Drop, S: Copy + Exact + Hash + Debug> Enco
     fn gate(&mut self, requirement: Requirement) -> R<VariableId>
         requires { IsBuilt self.old }
         // After an answer.
-        ensures encoded { OnOk result
-            ((p : Packages N S) (root : Rules)
-            → IsLawful p
-            → IsEncoding S.eq p root self.old
-            → has_candidates self.old.lists requirement ≡ true
-            → IsRule S.eq p root (Rule.shared requirement)
-            → IsEncoding S.eq p root self.new × rules_of self.new (Rule.shared requirement)) }
+        ensures encoded { OnOk result (SharesGate S.eq requirement self.old self.new) }
         ensures present { IfOk result (λ gate. Represents self.new.coding.atoms.keys gate (Gate requirement)) }
         ensures recorded { IfOk result (λ gate. slot_of self.new.gates requirement ≡ Some gate) }
         ensures lists { OnOk result (self.new.lists ≡ self.old.lists) }

@@ -1,20 +1,18 @@
 //! Clauses that forbid solvables: constraints, locks, exclusions, and unknown dependencies. The
 //! encoder adds them for each parent, and for the packages of its requirements and constraints.
-ghost use Rattle.std.specs.Prelude.{◌≡◌, ◌⊎◌, ◌<◌, ◌∷◌, [], true, Option, Some, OnOk, IfOk, IsSome, Contains, IsErrOf, IsOkUnless};
-ghost use Rattle.resolvo_pool_core.specs.declared.want.Want.TheVariants.{Memory, Ids};
+ghost use Rattle.std.specs.Prelude.{◌≡◌, ◌⊎◌, ◌<◌, ◌∷◌, [], true, Option, Some, OnOk, IfOk, IsSome, Contains, IsErrOf};
+ghost use Rattle.resolvo_pool_core.specs.declared.want.Want.TheVariants.{Ids};
 ghost use Rattle.std.specs.Bool.{Decides};
-ghost use Rattle.resolvo_pool_core.specs.RuleKeeping.{Packages, Rules, IsLawful, rules_for, is_outside};
 ghost use Rattle.resolvo_store_core.specs.Clauses.{no, root as root_variable};
 ghost use Rattle.resolvo_sat.specs.State.{count_of};
-ghost use Rattle.resolvo_packages.specs.PackageSource.{AreOutside};
-ghost use Rattle.resolvo_packages.specs.Forbidden.{AreForbidden};
-ghost use Rattle.resolvo_sat.specs.RuleClauses.{Rule, ForbidReason, IsForbiddenIn, IsForbidden};
+ghost use Rattle.resolvo_sat.specs.RuleClauses.{Rule, ForbidReason};
 ghost use Rattle.resolvo_state.specs.Atoms.{Represents};
 ghost use Rattle.resolvo_state.specs.SolverState.{IsCoding, LacksNumber};
 ghost use Rattle.resolvo_state.specs.ClauseKinds.{rule_of};
 ghost use Rattle.resolvo_state.specs.StoredKinds.{plain_kind, IsPlain};
-ghost use Rattle.resolvo_encoder.specs.Encoded.{rules_of, IsMarkKnown, IsEncoding, IsParentVariable, IsLimitEncoded};
+ghost use Rattle.resolvo_encoder.specs.Encoded.{IsParentVariable};
 ghost use Rattle.resolvo_encoder.specs.Steps.{IsBuilt, Extends};
+ghost use Rattle.resolvo_encoder.specs.Effects.{Forbids, Limits, LimitsOutside, LeavesOut};
 ghost use Rattle.resolvo_encoder.specs.ClauseRules.{IsPair, EncodesPair, EncodesRules, reason_of, forbid_rules, limit_rules, out_rules};
 
 use crate::encoder::{Encoder, GATED, add_key, add_value};
@@ -46,14 +44,7 @@ impl<N: Copy + Exact + Hash + Debug + Drop, S: Copy + Exact + Hash + Debug> Enco
     pub fn forbid(&mut self, name: N, barred: &[ForbiddenSolvable<S>]) -> R<()>
         requires { IsBuilt self.old }
         // After an answer.
-        ensures encoded { OnOk result
-            ((p : Packages N S) (root : Rules)
-            → IsLawful p
-            → IsEncoding S.eq p root self.old
-            → AreForbidden S.eq p name barred.now
-            → IsMarkKnown S.eq p self.old name
-            → IsEncoding S.eq p root self.new
-            × ((s : S) → IsForbiddenIn S.eq p name s → IsForbidden (rules_of self.new) s)) }
+        ensures encoded { OnOk result (Forbids S.eq name barred.now self.old self.new) }
         ensures lists { OnOk result (self.new.lists ≡ self.old.lists) }
         ensures registry { OnOk result (self.new.registry ≡ self.old.registry) }
         ensures kept { OnOk result (Extends self.old self.new) }
@@ -89,13 +80,7 @@ impl<N: Copy + Exact + Hash + Debug + Drop, S: Copy + Exact + Hash + Debug> Enco
         requires { IsBuilt self.old }
         // After an answer.
         ensures encoded { OnOk result
-            ((p : Packages N S) (root : Rules)
-            → IsLawful p
-            → IsEncoding S.eq p root self.old
-            → AreOutside S.eq p version_set outside.now
-            → Contains (rules_for S.eq p root parent).constraints version_set
-            → IsEncoding S.eq p root self.new
-            × IsLimitEncoded S.eq p (rules_of self.new) parent version_set) }
+            (Limits S.eq parent version_set outside.now self.old self.new) }
         ensures lists { OnOk result (self.new.lists ≡ self.old.lists) }
         ensures kept { OnOk result (Extends self.old self.new) }
         ensures built { OnOk result (IsBuilt self.new) }
@@ -116,16 +101,7 @@ impl<N: Copy + Exact + Hash + Debug + Drop, S: Copy + Exact + Hash + Debug> Enco
         requires { IsBuilt self.old }
         // After an answer.
         ensures encoded { OnOk result
-            ((p : Packages N S) (root : Rules)
-            → IsLawful p
-            → IsEncoding S.eq p root self.old
-            → AreOutside S.eq p version_set outside.now
-            → (parent : Option S)
-            → Contains (rules_for S.eq p root parent).constraints version_set
-            → IsEncoding S.eq p root self.new
-            × ((s : S)
-            → is_outside S.eq p version_set s ≡ true
-            → rules_of self.new (Rule.is_out version_set s))) }
+            (LeavesOut S.eq version_set outside.now self.old self.new) }
         ensures lists { OnOk result (self.new.lists ≡ self.old.lists) }
         ensures kept { OnOk result (Extends self.old self.new) }
         ensures built { OnOk result (IsBuilt self.new) }
@@ -230,13 +206,7 @@ impl<N: Copy + Exact + Hash + Debug + Drop, S: Copy + Exact + Hash + Debug> Enco
             (EncodesRules S.eq (Rule.limits_outside parent version_set ∷ [])
             self.old self.new) }
         ensures encoded { OnOk result
-            ((p : Packages N S) (root : Rules)
-            → IsLawful p
-            → IsEncoding S.eq p root self.old
-            → Contains self.old.recorded.version_sets.keys version_set
-            → Contains (rules_for S.eq p root parent).constraints version_set
-            → IsEncoding S.eq p root self.new
-            × IsLimitEncoded S.eq p (rules_of self.new) parent version_set) }
+            (LimitsOutside S.eq parent version_set self.old self.new) }
         // After a refusal.
         ensures ids { IsErrOf result Ids → LacksNumber self.new.coding }
     {
