@@ -11,11 +11,12 @@ use Rattle.resolvo_encoder.specs.declared.encoder.Encoder.{Encoder}
 use Rattle.resolvo_proof.specs.declared.offers.Offers.{Offers}
 use Rattle.resolvo_proof.specs.declared.step.ProofStep.{ProofStep}
 use Rattle.resolvo_turn.specs.Encoder.{IsRoot, IsInOrderBy}
+use Rattle.resolvo_turn.specs.TurnRules.{IsRootOf}
 use Rattle.resolvo_turn.specs.declared.turn_input.TurnInput.{TurnInput}
 use Rattle.resolvo.specs.Conflicts.{AreOffers, IsLeft}
 use Rattle.resolvo.specs.SoftTurns.{AreCandidates, IsCandidate, IsJustified}
 use Rattle.resolvo.specs.Solve.{IsFound, IsPreferred, IsSearch, IsSolved}
-use Rattle.resolvo.specs.Turns.{AreRight, HaveReasons, IsNextRight, IsRootOf}
+use Rattle.resolvo.specs.Turns.{AreRight, HaveReasons, IsNextRight}
 use Rattle.resolvo.specs.declared.conflict.KeptConflict.{KeptConflict}
 use Rattle.resolvo.specs.declared.prove.Solved.{Solved}
 use Rattle.resolvo.specs.declared.search.SearchResult.{SearchResult}

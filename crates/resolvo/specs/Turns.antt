@@ -10,9 +10,7 @@ use Rattle.resolvo_state.specs.Chosen.{choices}
 use Rattle.resolvo_state.specs.declared.solver_state.SolverState.{SolverState}
 use Rattle.resolvo_encoder.specs.TurnLevels.{AreAmongEncoded}
 use Rattle.resolvo_encoder.specs.declared.encoder.Encoder.{Encoder}
-use Rattle.resolvo_turn.specs.Encoder.{IsRoot}
 use Rattle.resolvo_turn.specs.Turn.{in_turn}
-use Rattle.resolvo_turn.specs.declared.turn_input.TurnInput.{TurnInput}
 use Rattle.resolvo.specs.Solution.{IsSolution, IsUnsolvable}
 use Rattle.resolvo.specs.SoftTurns.{IsReasonOf}
 use Rattle.resolvo.specs.declared.soft_requirements.SoftOutcome.{SoftOutcome}
@@ -152,10 +150,6 @@ IsNextRight same p root first softs e t (Some r) = IsUnsolvable same p root
 abbrev pub AreAtOrRefused : {N S : Type 0} → Encoder N S → Turns S → Option FinalConflict → Type 0
 AreAtOrRefused e t None = AreAt e t
 AreAtOrRefused e t (Some r) = IsRefusal e.coding.search r.literals.items r.causes.items × (r.literals.items ≡ [])
-
--- the root has the requirements and constraints that turns are given
-abbrev pub IsRootOf : TurnInput → Rules → Type 0
-IsRootOf input root = IsRoot input.requirements.now input.constraints.now root
 
 -- The turn is added after the others, and if its soft requirement was chosen in it, its choices are
 -- listed. Or nothing changed, and this is the conflict of the problem.

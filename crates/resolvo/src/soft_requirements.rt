@@ -18,8 +18,9 @@ ghost use Rattle.resolvo_encoder.specs.Encoded.{StaysEncoding};
 ghost use Rattle.resolvo_encoder.specs.Progress.{GoesOn};
 ghost use Rattle.resolvo_encoder.specs.Steps.{IsBuilt};
 ghost use Rattle.resolvo_encoder.specs.SoftRequirement.{turn_of, IsSoft};
-ghost use Rattle.resolvo_turn.specs.Encoder.{AddsParents, StaysInOrderOf};
+ghost use Rattle.resolvo_turn.specs.Encoder.{AddsParents};
 ghost use Rattle.resolvo_turn.specs.Turn.{IsRooted, IsTurn};
+ghost use Rattle.resolvo_turn.specs.TurnRules.{StaysInOrderOf};
 ghost use Rattle.resolvo.specs.Turns.{AreAt, RecordsOutcome, AreAtOrRefused};
 ghost use Rattle.resolvo.specs.SoftTurns.{AreTrueParents, IsClosed, IsOpenSoft, IsOutcome, IsRefusable, IsRejected, IsSettled, KeepsRest, KeepsTrail, Settles};
 ghost use Rattle.resolvo.specs.declared.soft_requirements.SoftOutcome.TheVariants.{Refused};
@@ -98,7 +99,7 @@ fn run_open<A: PackageSource, C: ScoreMap<A::NameId>>(
     // After an answer.
     ensures stays { OnOk result
         (StaysInOrderOf A.SolvableId.eq A.PackageSource answers.old
-        input.now.requirements.now input.now.constraints.now encoding.old encoding.new) }
+        input.now encoding.old encoding.new) }
     ensures adds { OnOk result (AddsParents (turn_of encoding.old) encoding.new) }
     ensures turn { OnOk result
         (IsOpen encoding.new variable

@@ -17,7 +17,9 @@ use Rattle.resolvo_encoder.specs.Conditions.{IsMetNow}
 use Rattle.resolvo_encoder.specs.Encoded.{IsGuarded, IsMarkKnown, IsPrepared, IsLimitEncoded, IsParentEncoded, rules_of}
 use Rattle.resolvo_encoder.specs.Steps.{Needs}
 use Rattle.resolvo_turn.specs.Tasks.{AreExcluded}
-use Rattle.resolvo_turn.specs.Encoder.{IsRoot, AreRulesOf, IsInOrderBy, AreDeferred, IsConditionalEncoded}
+use Rattle.resolvo_turn.specs.Encoder.{AreRulesOf, IsInOrderBy, AreDeferred, IsConditionalEncoded}
+use Rattle.resolvo_turn.specs.TurnRules.{IsRootOf}
+use Rattle.resolvo_turn.specs.declared.turn_input.TurnInput.{TurnInput}
 
 module _ {A N S C : Type 0} (same : S → S → Bool) (g : source.Ghosts A N S C) (a : A) where
   -- ---- locks, exclusions and marks
@@ -103,10 +105,10 @@ module _ {A N S C : Type 0} (same : S → S → Bool) (g : source.Ghosts A N S C
   EncodesSolvable s excluded old new = (root : Rules) → IsInOrderBy same g a root old → AreExcluded excluded old
       → IsInOrderBy same g a root new × IsParentEncoded same (g.packages a) new root (Some s)
 
-  -- the parent's rules are clauses, where the root has these requirements and constraints, and clauses
+  -- the parent's rules are clauses, where the root is the one that turns are given, and clauses
   -- exclude these solvables
-  abbrev pub EncodesParent : List ConditionalRequirement → List VersionSetId → Option S → List S → Encoder N S → Encoder N S → Type 0
-  EncodesParent requirements constraints parent excluded old new = (root : Rules) → IsRoot requirements constraints root
+  abbrev pub EncodesParent : TurnInput → Option S → List S → Encoder N S → Encoder N S → Type 0
+  EncodesParent input parent excluded old new = (root : Rules) → IsRootOf input root
       → IsInOrderBy same g a root old → AreExcluded excluded old
       → IsInOrderBy same g a root new × IsParentEncoded same (g.packages a) new root parent
 

@@ -38,10 +38,6 @@ IsInOrderBy same g a root e = IsInOrder same (g.packages a) (g.orders a) root e
 abbrev pub StaysInOrder : {A N S C : Type 0} → (S → S → Bool) → source.Ghosts A N S C → A → Encoder N S → Encoder N S → Type 0
 StaysInOrder same g a old new = (root : Rules) → IsInOrderBy same g a root old → IsInOrderBy same g a root new
 
--- an encoding in order stays one where the root has these requirements and constraints
-abbrev pub StaysInOrderOf : {A N S C : Type 0} → (S → S → Bool) → source.Ghosts A N S C → A → List ConditionalRequirement → List VersionSetId → Encoder N S → Encoder N S → Type 0
-StaysInOrderOf same g a requirements constraints old new = (root : Rules) → IsRoot requirements constraints root → IsInOrderBy same g a root old → IsInOrderBy same g a root new
-
 -- each of these cases of the parent's requirement is deferred, or was
 abbrev pub AreDeferred : {N S : Type 0} → Encoder N S → Option S → ConditionalRequirement → List (List VersionSetId) → Type 0
 AreDeferred {N} {S} e parent need cases = (case : List VersionSetId) → Contains cases case → IsDeferred e parent need case

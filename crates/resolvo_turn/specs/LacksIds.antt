@@ -8,7 +8,7 @@ use Rattle.resolvo_store_core.specs.Lists.{disjunction_count}
 use Rattle.resolvo_packages.specs.declared.package_source.PackageSource as source
 use Rattle.resolvo_state.specs.SolverState.{LacksNumber}
 use Rattle.resolvo_encoder.specs.declared.encoder.Encoder.{Encoder}
-use Rattle.resolvo_turn.specs.Encoder.{IsRoot, AreRulesOf, IsInOrderBy}
+use Rattle.resolvo_turn.specs.Encoder.{AreRulesOf, IsInOrderBy}
 
 -- the root or a solvable has a requirement with the last index, of which there are no candidates
 pub record NeedsLast {N S : Type 0} (same : S → S → Bool) (p : Packages N S) (root : Rules) : Type 0 where
@@ -33,10 +33,6 @@ module _ {A N S C : Type 0} (same : S → S → Bool) (g : source.Ghosts A N S C
   -- where the encoding was in order
   abbrev pub StopsInOrder : Encoder N S → Encoder N S → Type 0
   StopsInOrder old new = (root : Rules) → IsInOrderBy same g a root old → LacksIds same g a root new
-
-  -- the same where the root has these requirements and constraints
-  abbrev pub StopsInOrderOf : List ConditionalRequirement → List VersionSetId → Encoder N S → Encoder N S → Type 0
-  StopsInOrderOf requirements constraints old new = (root : Rules) → IsRoot requirements constraints root → IsInOrderBy same g a root old → LacksIds same g a root new
 
   -- where the parent has this requirement
   abbrev pub StopsNeed : Option S → ConditionalRequirement → Encoder N S → Type 0

@@ -3,4 +3,5 @@ pub mod Effects
 pub mod Tasks
 pub mod Turn
 pub mod LacksIds
+pub mod TurnRules
 pub mod Matches

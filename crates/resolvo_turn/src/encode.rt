@@ -11,9 +11,10 @@ ghost use Rattle.resolvo_state.specs.SolverState.{LacksNumber};
 ghost use Rattle.resolvo_encoder.specs.Encoded.{IsWhole};
 ghost use Rattle.resolvo_encoder.specs.Base.{KeepsTurns};
 ghost use Rattle.resolvo_encoder.specs.Steps.{IsBuilt};
-ghost use Rattle.resolvo_turn.specs.Encoder.{AddsNeeds, AddsAll, StaysInOrder, StaysInOrderOf};
+ghost use Rattle.resolvo_turn.specs.Encoder.{AddsNeeds, AddsAll, StaysInOrder};
 ghost use Rattle.resolvo_turn.specs.Effects.{EncodesSolvable, EncodesParent};
-ghost use Rattle.resolvo_turn.specs.LacksIds.{StopsAnyhow, StopsInOrder, StopsInOrderOf};
+ghost use Rattle.resolvo_turn.specs.LacksIds.{StopsAnyhow, StopsInOrder};
+ghost use Rattle.resolvo_turn.specs.TurnRules.{StaysInOrderOf, StopsInOrderOf};
 ghost use Rattle.resolvo_turn.specs.Tasks.{bound, cost, Excludes, KeepsExcluded};
 
 use crate::fire_conditions::{fire_if_due, match_case};
@@ -306,7 +307,7 @@ fn encode_parent<A: PackageSource>(
     // After an answer.
     ensures encoded { OnOk result
         (EncodesParent A.SolvableId.eq A.PackageSource answers.old
-        input.now.requirements.now input.now.constraints.now (solvable_of parent)
+        input.now (solvable_of parent)
         excluded.old.keys encoding.old encoding.new) }
     ensures kept { OnOk result (AddsNeeds encoding.old encoding.new) }
     ensures excluded { OnOk result
@@ -317,7 +318,7 @@ fn encode_parent<A: PackageSource>(
     ensures cancelled { IfErr result (IsCancelledBy (A.may_cancel answers.old)) }
     ensures ids { IsErrOf result Ids
         → StopsInOrderOf A.SolvableId.eq A.PackageSource answers.old
-        input.now.requirements.now input.now.constraints.now encoding.old encoding.new }
+        input.now encoding.old encoding.new }
 {
     match parent {
         SolvableIdOrRoot::Root => {
@@ -348,7 +349,7 @@ fn encode_waiting<A: PackageSource>(
     // After an answer.
     ensures encoded { OnOk result
         (StaysInOrderOf A.SolvableId.eq A.PackageSource answers.old
-        input.now.requirements.now input.now.constraints.now encoding.old encoding.new) }
+        input.now encoding.old encoding.new) }
     ensures all { OnOk result (AddsAll encoding.old encoding.new) }
     ensures turn { OnOk result (KeepsTurns encoding.old encoding.new) }
     ensures built { OnOk result (IsBuilt encoding.new) }
@@ -356,7 +357,7 @@ fn encode_waiting<A: PackageSource>(
     ensures cancelled { IfErr result (IsCancelledBy (A.may_cancel answers.old)) }
     ensures ids { IsErrOf result Ids
         → StopsInOrderOf A.SolvableId.eq A.PackageSource answers.old
-        input.now.requirements.now input.now.constraints.now encoding.old encoding.new }
+        input.now encoding.old encoding.new }
 {
     loop {
         ask_and_fire(alloc, answers, encoding, tasks, excluded)?;
@@ -389,7 +390,7 @@ fn encode_tasks<A: PackageSource>(
     // After an answer.
     ensures encoded { OnOk result
         (StaysInOrderOf A.SolvableId.eq A.PackageSource answers.old
-        input.now.requirements.now input.now.constraints.now encoding.old encoding.new) }
+        input.now encoding.old encoding.new) }
     ensures all { OnOk result (AddsAll encoding.old encoding.new) }
     ensures turn { OnOk result (KeepsTurns encoding.old encoding.new) }
     ensures placed { OnOk result (IsWhole encoding.new) }
@@ -398,7 +399,7 @@ fn encode_tasks<A: PackageSource>(
     ensures cancelled { IfErr result (IsCancelledBy (A.may_cancel answers.old)) }
     ensures ids { IsErrOf result Ids
         → StopsInOrderOf A.SolvableId.eq A.PackageSource answers.old
-        input.now.requirements.now input.now.constraints.now encoding.old encoding.new }
+        input.now encoding.old encoding.new }
 {
     tasks.push_parents(encoding.parents.as_slice())?;
     tasks.push_each(encoding, places)?;
@@ -423,7 +424,7 @@ pub(crate) fn encode_parents<A: PackageSource>(
     // After an answer.
     ensures encoded { OnOk result
         (StaysInOrderOf A.SolvableId.eq A.PackageSource answers.old
-        input.now.requirements.now input.now.constraints.now encoding.old encoding.new) }
+        input.now encoding.old encoding.new) }
     ensures all { OnOk result (AddsAll encoding.old encoding.new) }
     ensures turn { OnOk result (KeepsTurns encoding.old encoding.new) }
     ensures placed { OnOk result (IsWhole encoding.new) }
@@ -432,7 +433,7 @@ pub(crate) fn encode_parents<A: PackageSource>(
     ensures cancelled { IfErr result (IsCancelledBy (A.may_cancel answers.old)) }
     ensures ids { IsErrOf result Ids
         → StopsInOrderOf A.SolvableId.eq A.PackageSource answers.old
-        input.now.requirements.now input.now.constraints.now encoding.old encoding.new }
+        input.now encoding.old encoding.new }
 {
     tasks.begin(encoding.encoded);
     let mut excluded = IndexSet::new(alloc);

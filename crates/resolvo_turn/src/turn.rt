@@ -10,9 +10,10 @@ ghost use Rattle.resolvo_encoder.specs.Conditions.{AreSpent};
 ghost use Rattle.resolvo_encoder.specs.Steps.{IsBuilt, AddsParent};
 ghost use Rattle.resolvo_encoder.specs.Encoded.{IsWhole, StaysEncoding};
 ghost use Rattle.resolvo_encoder.specs.Progress.{GoesOn};
-ghost use Rattle.resolvo_turn.specs.Encoder.{AddsNeeds, AddsParents, AddsAll, StaysInOrder, StaysInOrderOf};
+ghost use Rattle.resolvo_turn.specs.Encoder.{AddsNeeds, AddsParents, AddsAll, StaysInOrder};
 ghost use Rattle.resolvo_turn.specs.Turn.{AddsChosen, AreTakenParents, FiresMore, HasSoft, IsBegunBy, IsDecisionOf, IsRooted, IsRound, IsTurn, FindsMore, FindsNone};
-ghost use Rattle.resolvo_turn.specs.LacksIds.{StopsInOrder, StopsInOrderOf};
+ghost use Rattle.resolvo_turn.specs.LacksIds.{StopsInOrder};
+ghost use Rattle.resolvo_turn.specs.TurnRules.{StaysInOrderOf, StopsInOrderOf};
 
 use crate::cdcl::{Activity, run_cdcl};
 use crate::chosen::{chosen_at, chosen_in_turn};
@@ -112,7 +113,7 @@ fn encode<A: PackageSource>(
     // After an answer.
     ensures encoded { OnOk result
         (StaysInOrderOf A.SolvableId.eq A.PackageSource answers.old
-        input.now.requirements.now input.now.constraints.now encoding.old encoding.new) }
+        input.now encoding.old encoding.new) }
     ensures all { OnOk result (AddsAll encoding.old encoding.new) }
     ensures turn { OnOk result (KeepsTurns encoding.old encoding.new) }
     ensures placed { OnOk result (IsWhole encoding.new) }
@@ -121,7 +122,7 @@ fn encode<A: PackageSource>(
     ensures cancelled { IfErr result (IsCancelledBy (A.may_cancel answers.old)) }
     ensures ids { IsErrOf result Ids
         → StopsInOrderOf A.SolvableId.eq A.PackageSource answers.old
-        input.now.requirements.now input.now.constraints.now encoding.old encoding.new }
+        input.now encoding.old encoding.new }
 {
     encode_parents(alloc, answers, encoding, tasks, scan.touched(), input)?;
     scan.end_touched(encoding);
@@ -288,7 +289,7 @@ fn encode_and_decide<A: PackageSource, C: ScoreMap<A::NameId>>(
     // After an answer.
     ensures stays { OnOk result
         (StaysInOrderOf A.SolvableId.eq A.PackageSource answers.old
-        input.now.requirements.now input.now.constraints.now encoding.old encoding.new) }
+        input.now encoding.old encoding.new) }
     ensures all { OnOk result (AddsAll encoding.old encoding.new) }
     ensures turn { OnOk result (KeepsTurn soft encoding.old encoding.new) }
     ensures decided { IfOk result (IsDecisionOf soft encoding.new) }
@@ -298,7 +299,7 @@ fn encode_and_decide<A: PackageSource, C: ScoreMap<A::NameId>>(
     ensures cancelled { IfErr result (IsCancelledBy (A.may_cancel answers.old)) }
     ensures ids { IsErrOf result Ids
         → StopsInOrderOf A.SolvableId.eq A.PackageSource answers.old
-        input.now.requirements.now input.now.constraints.now encoding.old encoding.new }
+        input.now encoding.old encoding.new }
 {
     encode(
         alloc,
@@ -444,7 +445,7 @@ fn run_round<A: PackageSource, C: ScoreMap<A::NameId>>(
     // After an answer.
     ensures stays { OnOk result
         (StaysInOrderOf A.SolvableId.eq A.PackageSource answers.old
-        input.now.requirements.now input.now.constraints.now encoding.old encoding.new) }
+        input.now encoding.old encoding.new) }
     ensures adds { OnOk result (AddsParents encoding.old encoding.new) }
     ensures turn { OnOk result (KeepsTurn soft encoding.old encoding.new) }
     ensures round { IfOk result (IsRound A.SolvableId.eq soft encoding.old encoding.new) }
@@ -453,7 +454,7 @@ fn run_round<A: PackageSource, C: ScoreMap<A::NameId>>(
     ensures cancelled { IfErr result (IsCancelledBy (A.may_cancel answers.old)) }
     ensures ids { IsErrOf result Ids
         → StopsInOrderOf A.SolvableId.eq A.PackageSource answers.old
-        input.now.requirements.now input.now.constraints.now encoding.old encoding.new }
+        input.now encoding.old encoding.new }
 {
     let decided = encode_and_decide(alloc, answers, encoding, state, input, soft)?;
     if let Some(refusal) = decided {
@@ -489,7 +490,7 @@ pub fn run_turn<A: PackageSource, C: ScoreMap<A::NameId>>(
     // After an answer.
     ensures stays { OnOk result
         (StaysInOrderOf A.SolvableId.eq A.PackageSource answers.old
-        input.now.requirements.now input.now.constraints.now encoding.old encoding.new) }
+        input.now encoding.old encoding.new) }
     ensures adds { OnOk result (AddsParents encoding.old encoding.new) }
     ensures turn { OnOk result (KeepsTurn soft encoding.old encoding.new) }
     ensures ended { IfOk result (IsTurn A.SolvableId.eq soft encoding.new) }
@@ -498,7 +499,7 @@ pub fn run_turn<A: PackageSource, C: ScoreMap<A::NameId>>(
     ensures cancelled { IfErr result (IsCancelledBy (A.may_cancel answers.old)) }
     ensures ids { IsErrOf result Ids
         → StopsInOrderOf A.SolvableId.eq A.PackageSource answers.old
-        input.now.requirements.now input.now.constraints.now encoding.old encoding.new }
+        input.now encoding.old encoding.new }
 {
     state.scan.begin_turn(encoding);
     loop {

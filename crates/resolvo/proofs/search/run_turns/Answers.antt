@@ -5,7 +5,7 @@ use Rattle.resolvo_sat.specs.declared.analyze.FinalConflict.{FinalConflict}
 use Rattle.resolvo_encoder.proofs.BuildLemmas.{built_begun}
 use Rattle.resolvo_turn.specs.Turn.{IsTurn}
 use Rattle.resolvo_turn.specs.Encoder.{IsInOrder}
-use Rattle.resolvo.specs.Turns.{IsRootOf}
+use Rattle.resolvo_turn.specs.TurnRules.{IsRootOf}
 use Rattle.resolvo.specs.SoftTurns.{AreCandidates}
 use Rattle.resolvo.specs.Solve.{IsFound, IsPreferred}
 use Rattle.resolvo.proofs.Found.{begun_rooted, root_denial, root_refused}

@@ -5,7 +5,8 @@ use Rattle.resolvo_pool_core.specs.RuleKeeping.{Rules}
 use Rattle.resolvo_sat.specs.RuleClauses.{IsExact}
 use Rattle.resolvo_state.proofs.Positions.{prefix_same, prefix_then}
 use Rattle.resolvo_turn.specs.Encoder.{IsInOrder}
-use Rattle.resolvo.specs.Turns.{AreRight, HaveReasons, IsNextRight, IsRootOf, AreAtOrRefused}
+use Rattle.resolvo.specs.Turns.{AreRight, HaveReasons, IsNextRight, AreAtOrRefused}
+use Rattle.resolvo_turn.specs.TurnRules.{IsRootOf}
 use Rattle.resolvo.specs.SoftTurns.{IsCandidate, IsJustified}
 use Rattle.resolvo.proofs.ListLemmas.{item_contained}
 use Rattle.resolvo.proofs.Next.{at_parents, outcome_prefix, outcome_right, outcome_at}

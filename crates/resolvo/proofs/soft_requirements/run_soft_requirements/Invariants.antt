@@ -4,7 +4,8 @@ use Rattle.resolvo_store_core.specs.AtMostOne.{IsPrefixOf}
 use Rattle.resolvo_encoder.specs.Steps.{IsBuilt}
 use Rattle.resolvo_turn.specs.Encoder.{IsInOrder}
 use Rattle.resolvo_turn.specs.Turn.{IsRooted}
-use Rattle.resolvo.specs.Turns.{AreAt, AreRight, HaveReasons, IsRootOf}
+use Rattle.resolvo.specs.Turns.{AreAt, AreRight, HaveReasons}
+use Rattle.resolvo_turn.specs.TurnRules.{IsRootOf}
 use Rattle.resolvo.specs.SoftTurns.{AreCandidates}
 use Rattle.resolvo.proofs.soft_requirements.run_soft_requirements.Given as goal
 

@@ -5,7 +5,7 @@ use Rattle.resolvo_packages.specs.declared.package_source.Offered.{Offered}
 use Rattle.resolvo_sat.specs.RuleClauses.{IsExact}
 use Rattle.resolvo_encoder.specs.Steps.{IsListed}
 use Rattle.resolvo.specs.SoftTurns.{IsCandidate}
-use Rattle.resolvo_turn.specs.Encoder.{StaysInOrderOf}
+use Rattle.resolvo_turn.specs.TurnRules.{StaysInOrderOf}
 use Rattle.resolvo.proofs.Outcomes.{recorded_undecided, registered_in_order, registered_soft, registered_taken, closed_in_order, closed_keeps, closed_outcome, closed_right, turn_closable}
 use Rattle.resolvo.proofs.soft_requirements.run_undecided.Goals as goal
 
@@ -40,7 +40,7 @@ returns-clause-stays g c = λ root is candidate e.
     let lawful = g.met.A.PackageSource.lawful c.args.answers.now in
     let offered : Offered g.row.A-NameId.Denot g.row.A-SolvableId.Denot = record { solvable = c.args.soft; name = c.package-name.result } in
     let (o, base) = c.in_ok-turn.ensures.turn in
-    let stays = subst (λ (a : g.row.A.Denot). StaysInOrderOf same g.A.PackageSource a c.args.input.now.requirements.now c.args.input.now.constraints.now c.record_soft.new.self c.run_open.new.encoding) c.in_ok-many.ensures.same c.in_ok-turn.ensures.stays in
+    let stays = subst (λ (a : g.row.A.Denot). StaysInOrderOf same g.A.PackageSource a c.args.input.now c.record_soft.new.self c.run_open.new.encoding) c.in_ok-many.ensures.same c.in_ok-turn.ensures.stays in
     let order = stays root is (registered_in_order same c.args.encoding.now c.record_soft.new.self offered c.in_ok-many.many c.in_ok-variable.variable c.in_ok-variable.ensures.recorded p orders root lawful (candidate_listed same p c.args.soft c.package-name.result c.package-name.ensures candidate) c.in_ok-many.ensures.mark e) in (
       closed_in_order same c.args.encoding.now c.record_soft.new.self offered c.in_ok-many.many c.in_ok-variable.variable c.in_ok-variable.ensures.recorded c.run_open.new.encoding c.in_ok-turn.ensures.adds o base c.close_turn.new.encoding c.in_ok-status.ensures.rest p orders root (c.in_ok-status.ensures.stays p root lawful) order,
       closed_right same c.args.encoding.now c.record_soft.new.self offered c.in_ok-many.many c.in_ok-variable.variable c.in_ok-variable.ensures.recorded c.run_open.new.encoding c.in_ok-turn.ensures.adds o base c.close_turn.new.encoding c.in_ok-status.ensures.rest c.in_ok-turn.turn c.in_ok-turn.ensures.ended c.requires.built.coding exact g.A.NameId.PartialEq.eq names p root order.encoding

@@ -1,4 +1,4 @@
-use Rattle.std.proofs.Common.{◌≡◌, ◌<◌, ◌≤◌, ◌+◌, None, Some, length, List, [], refl, sym, ◌∙◌, ap, subst, arith, rules}
+use Rattle.std.proofs.Common.{◌≡◌, ◌<◌, ◌≤◌, ◌+◌, None, Some, length, List, refl, sym, ◌∙◌, ap, subst, arith, rules}
 use Rattle.std.specs.Prelude.{slice_get, Contains}
 use Rattle.std.proofs.lemmas.Option.{slice_get_within}
 use Rattle.resolvo_pool_core.specs.Text.{solvable_of}
@@ -8,8 +8,9 @@ use Rattle.resolvo_encoder.specs.declared.encoder.Encoder.{Encoder}
 use Rattle.resolvo_encoder.proofs.Bases.{turn_same, turns_then}
 use Rattle.resolvo_turn.specs.Encoder.{StaysInOrder}
 use Rattle.resolvo_turn.specs.Effects.{EncodesParent}
-use Rattle.resolvo_turn.specs.LacksIds.{StopsInOrder, StopsInOrderOf}
+use Rattle.resolvo_turn.specs.LacksIds.{StopsInOrder}
 use Rattle.resolvo_turn.specs.Tasks.{KeepsExcluded}
+use Rattle.resolvo_turn.specs.TurnRules.{StopsInOrderOf}
 use Rattle.resolvo_turn.proofs.AddLemmas.{next_in_order, all_none, all_then, all_next, needs_parents, next_all, turns_next}
 use Rattle.resolvo_turn.proofs.TaskLemmas.{excluded_next}
 use Rattle.resolvo_turn.proofs.EndLemmas.{past_end}
@@ -34,7 +35,7 @@ loop-encoding-preserved g c =
     let stays = subst (λ (a : g.row.A.Denot). StaysInOrder same g.A.PackageSource a old middle) before.same asked.stays in
     let one = subst (λ (a : g.row.A.Denot). KeepsExcluded same g.A.PackageSource a c.loop-encoding.excluded.keys c.ask_and_fire.new.excluded.keys old middle) before.same asked.excluded in
     let two = subst (λ (a : g.row.A.Denot). KeepsExcluded same g.A.PackageSource a c.ask_and_fire.new.excluded.keys c.encode_parent.new.excluded.keys middle new) (asked.same ∙ before.same) c.in_ok-encode_parent-in-Some.ensures.excluded in
-    let encodes = subst (λ (a : g.row.A.Denot). EncodesParent same g.A.PackageSource a c.args.input.now.requirements.now c.args.input.now.constraints.now (solvable_of c.in-Some.parent) c.ask_and_fire.new.excluded.keys middle new) (asked.same ∙ before.same) c.in_ok-encode_parent-in-Some.ensures.encoded in
+    let encodes = subst (λ (a : g.row.A.Denot). EncodesParent same g.A.PackageSource a c.args.input.now (solvable_of c.in-Some.parent) c.ask_and_fire.new.excluded.keys middle new) (asked.same ∙ before.same) c.in_ok-encode_parent-in-Some.ensures.encoded in
     let here : slice_get middle.parents.keys middle.encoded ≡ Some c.in-Some.parent = sym c.next_parent.ensures.parent ∙ c.in-Some.is in
     record {
       same = c.in_ok-encode_parent-in-Some.ensures.same ∙ (asked.same ∙ before.same);
@@ -101,5 +102,5 @@ returns-in_err-encode_parent-in-Some-clause-ids g c = λ is root are e.
     let same = g.A.SolvableId.PartialEq.eq in
     let before = c.loop-encoding.invariant in
     let stays = subst (λ (a : g.row.A.Denot). StaysInOrder same g.A.PackageSource a c.loop-encoding.encoding c.ask_and_fire.new.encoding) before.same c.in_ok-ask_and_fire.ensures.stays in
-    let stops = subst (λ (a : g.row.A.Denot). StopsInOrderOf same g.A.PackageSource a c.args.input.now.requirements.now c.args.input.now.constraints.now c.ask_and_fire.new.encoding c.encode_parent.new.encoding) (c.in_ok-ask_and_fire.ensures.same ∙ before.same) (search (rules, is)) in
+    let stops = subst (λ (a : g.row.A.Denot). StopsInOrderOf same g.A.PackageSource a c.args.input.now c.ask_and_fire.new.encoding c.encode_parent.new.encoding) (c.in_ok-ask_and_fire.ensures.same ∙ before.same) (search (rules, is)) in
     stops root are (stays root (before.encoded root are e).0)

@@ -1,13 +1,11 @@
 use Rattle.std.proofs.Common.{refl, ◌∙◌, subst, rules}
-use Rattle.resolvo_pool_core.specs.RuleKeeping.{Rules}
 use Rattle.resolvo_encoder.proofs.Bases.{turn_has, turn_same, turn_then}
-use Rattle.resolvo_turn.specs.Encoder.{IsInOrder, IsRoot}
 use Rattle.resolvo_turn.specs.declared.turn.Round.{Round}
 use Rattle.resolvo_turn.specs.Turn.{IsRound}
 use Rattle.resolvo_turn.proofs.AddLemmas.{all_none, all_then}
 use Rattle.resolvo_turn.proofs.EndLemmas.{fewer_left, still_rooted}
 use Rattle.resolvo_turn.proofs.TakenLemmas.{taken_kept}
-use Rattle.resolvo_turn.specs.LacksIds.{StopsInOrderOf}
+use Rattle.resolvo_turn.specs.TurnRules.{StaysInOrderOf, StopsInOrderOf}
 use Rattle.resolvo_turn.proofs.turn.run_turn.Goals as goal
 
 pub loop-refusal-init : goal.loop-refusal-init
@@ -30,8 +28,7 @@ pub loop-refusal-preserved : goal.loop-refusal-preserved
 loop-refusal-preserved g c =
     let same = g.A.SolvableId.PartialEq.eq in
     let before = c.loop-refusal.invariant in
-    let stays = subst (λ (a : g.row.A.Denot). (root : Rules) → IsRoot c.args.input.now.requirements.now c.args.input.now.constraints.now root → IsInOrder same (g.A.PackageSource.packages a) (g.A.PackageSource.orders a) root c.loop-refusal.encoding
-    → IsInOrder same (g.A.PackageSource.packages a) (g.A.PackageSource.orders a) root c.run_round.new.encoding) before.same c.in_ok-run_round.ensures.stays in
+    let stays = subst (λ (a : g.row.A.Denot). StaysInOrderOf same g.A.PackageSource a c.args.input.now c.loop-refusal.encoding c.run_round.new.encoding) before.same c.in_ok-run_round.ensures.stays in
     record {
       same = c.in_ok-run_round.ensures.same ∙ before.same;
       stays = λ root is e. stays root is (before.stays root is e);
@@ -45,8 +42,7 @@ loop-refusal-preserved g c =
 pub returns-in-Complete-clause-stays : goal.returns-in-Complete-clause-stays
 returns-in-Complete-clause-stays g c = λ root is e.
     let same = g.A.SolvableId.PartialEq.eq in
-    (subst (λ (a : g.row.A.Denot). (root : Rules) → IsRoot c.args.input.now.requirements.now c.args.input.now.constraints.now root → IsInOrder same (g.A.PackageSource.packages a) (g.A.PackageSource.orders a) root c.loop-refusal.encoding
-    → IsInOrder same (g.A.PackageSource.packages a) (g.A.PackageSource.orders a) root c.run_round.new.encoding) c.loop-refusal.invariant.same c.in_ok-run_round.ensures.stays) root is (c.loop-refusal.invariant.stays root is e)
+    (subst (λ (a : g.row.A.Denot). StaysInOrderOf same g.A.PackageSource a c.args.input.now c.loop-refusal.encoding c.run_round.new.encoding) c.loop-refusal.invariant.same c.in_ok-run_round.ensures.stays) root is (c.loop-refusal.invariant.stays root is e)
 
 pub returns-in-Complete-clause-same : goal.returns-in-Complete-clause-same
 returns-in-Complete-clause-same g c = c.in_ok-run_round.ensures.same ∙ c.loop-refusal.invariant.same
@@ -60,8 +56,7 @@ returns-in-Complete-clause-ended g c = subst (λ (r : Round). IsRound g.A.Solvab
 pub returns-in-Refused-clause-stays : goal.returns-in-Refused-clause-stays
 returns-in-Refused-clause-stays g c = λ root is e.
     let same = g.A.SolvableId.PartialEq.eq in
-    (subst (λ (a : g.row.A.Denot). (root : Rules) → IsRoot c.args.input.now.requirements.now c.args.input.now.constraints.now root → IsInOrder same (g.A.PackageSource.packages a) (g.A.PackageSource.orders a) root c.loop-refusal.encoding
-    → IsInOrder same (g.A.PackageSource.packages a) (g.A.PackageSource.orders a) root c.run_round.new.encoding) c.loop-refusal.invariant.same c.in_ok-run_round.ensures.stays) root is (c.loop-refusal.invariant.stays root is e)
+    (subst (λ (a : g.row.A.Denot). StaysInOrderOf same g.A.PackageSource a c.args.input.now c.loop-refusal.encoding c.run_round.new.encoding) c.loop-refusal.invariant.same c.in_ok-run_round.ensures.stays) root is (c.loop-refusal.invariant.stays root is e)
 
 pub returns-in-Refused-clause-same : goal.returns-in-Refused-clause-same
 returns-in-Refused-clause-same g c = c.in_ok-run_round.ensures.same ∙ c.loop-refusal.invariant.same
@@ -83,5 +78,5 @@ run_round-requires-clause-turn g c = turn_has c.args.soft c.args.encoding.now c.
 
 pub returns-in_err-run_round-clause-ids : goal.returns-in_err-run_round-clause-ids
 returns-in_err-run_round-clause-ids g c = λ is root are e.
-    let stops = subst (λ (a : g.row.A.Denot). StopsInOrderOf g.A.SolvableId.PartialEq.eq g.A.PackageSource a c.args.input.now.requirements.now c.args.input.now.constraints.now c.loop-refusal.encoding c.run_round.new.encoding) c.loop-refusal.invariant.same (search (rules, is)) in
+    let stops = subst (λ (a : g.row.A.Denot). StopsInOrderOf g.A.SolvableId.PartialEq.eq g.A.PackageSource a c.args.input.now c.loop-refusal.encoding c.run_round.new.encoding) c.loop-refusal.invariant.same (search (rules, is)) in
     stops root are (c.loop-refusal.invariant.stays root are e)
