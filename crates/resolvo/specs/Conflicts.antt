@@ -36,9 +36,13 @@ pub record IsRightOffer {N S : Type 0} (same : S → S → Bool) (p : Packages N
 
 -- such a list was offered for each requirement of the rules of the steps' conflict
 abbrev pub AreOffers : {N S : Type 0} → (S → S → Bool) → Packages N S → (Requirement → List S → Type 0) → List (ProofStep N S) → Offers S → Type 0
-AreOffers same p orders steps offers = (r : Requirement) → Contains (requirements_in (conflict_rules steps)) r → IsRightOffer same p orders r (offered_by offers r)
+AreOffers same p orders steps offers = (r : Requirement)
+    → Contains (requirements_in (conflict_rules steps)) r
+    → IsRightOffer same p orders r (offered_by offers r)
 
 -- the record of a conflict: its clauses, which are returned too, and the offers; otherwise none
 abbrev pub IsLeft : {N S : Type 0} → (S → S → Bool) → Packages N S → (Requirement → List S → Type 0) → SearchResult S → List (ProofStep N S) → List ClauseId → Option (KeptConflict S) → Type 0
 IsLeft same p orders (Chosen v turns) steps ids left = left ≡ None
-IsLeft {N} {S} same p orders (Unsat r) steps ids left = (k : KeptConflict S) × (left ≡ Some k) × (k.clauses.items ≡ ids) × (ids ≡ conflict_clauses steps) × AreOffers same p orders steps k.offers
+IsLeft {N} {S} same p orders (Unsat r) steps ids left = (k : KeptConflict S) × (left ≡ Some k)
+    × (k.clauses.items ≡ ids) × (ids ≡ conflict_clauses steps)
+    × AreOffers same p orders steps k.offers

@@ -26,24 +26,29 @@ use Rattle.resolvo.specs.declared.turns.Turns.{Turns}
 module _ {A N S C : Type 0} (same : S → S → Bool) (g : source.Ghosts A N S C) (a : A) where
   -- the outcome of a soft requirement's turn, a candidate's; a refusal is justified
   abbrev pub RunsSoft : TurnInput → S → Encoder N S → Encoder N S → SoftOutcome → Type 0
-  RunsSoft input soft old new outcome = (root : Rules) → IsRootOf input root → IsCandidate same (g.packages a) soft
+  RunsSoft input soft old new outcome = (root : Rules) → IsRootOf input root
+      → IsCandidate same (g.packages a) soft
       → IsInOrderBy same g a root old
       → IsInOrderBy same g a root new × IsJustified same (g.packages a) root old new soft outcome
 
   -- The turns of these soft requirements, candidates, after right choices. The choices are right
   -- after them, or the rules can't all be kept.
   abbrev pub RunsSofts : TurnInput → List S → Encoder N S → Turns S → Encoder N S → Turns S → Option FinalConflict → Type 0
-  RunsSofts input softs old turns_old new turns_new conflict = (root : Rules) (first : ℕ) → IsRootOf input root
+  RunsSofts input softs old turns_old new turns_new conflict = (root : Rules) (first : ℕ)
+      → IsRootOf input root
       → AreCandidates same (g.packages a) softs
       → IsInOrderBy same g a root old
       → AreRight same (g.packages a) root first [] turns_old → HaveReasons old.coding turns_old
-      → IsInOrderBy same g a root new × IsNextRight same (g.packages a) root first softs new turns_new conflict
+      → IsInOrderBy same g a root new
+      × IsNextRight same (g.packages a) root first softs new turns_new conflict
 
   -- the result of all turns, where the soft requirements are candidates
   abbrev pub RunsTurns : TurnInput → List S → Encoder N S → Encoder N S → SearchResult S → Type 0
-  RunsTurns input softs old new found = (root : Rules) → IsRootOf input root → AreCandidates same (g.packages a) softs
+  RunsTurns input softs old new found = (root : Rules) → IsRootOf input root
+      → AreCandidates same (g.packages a) softs
       → IsInOrderBy same g a root old
-      → IsInOrderBy same g a root new × IsFound same (g.packages a) root softs new found × IsPreferred same (g.packages a) (g.orders a) root found
+      → IsInOrderBy same g a root new × IsFound same (g.packages a) root softs new found
+      × IsPreferred same (g.packages a) (g.orders a) root found
 
   -- the result of a search for a root without requirements, from its encoding
   abbrev pub FindsNothing : Encoder N S → Encoder N S → SearchResult S → Type 0
@@ -54,14 +59,16 @@ module _ {A N S C : Type 0} (same : S → S → Bool) (g : source.Ghosts A N S C
   -- the result of a search for a root with these requirements and constraints and for these soft
   -- requirements, candidates, from an encoding of the problem
   abbrev pub Searches : List ConditionalRequirement → List VersionSetId → List S → Encoder N S → Encoder N S → SearchResult S → Type 0
-  Searches requirements constraints softs old new found = (root : Rules) → IsRoot requirements constraints root
+  Searches requirements constraints softs old new found = (root : Rules)
+      → IsRoot requirements constraints root
       → AreCandidates same (g.packages a) softs
       → IsEncoding same (g.packages a) root old
       → IsSearch same (g.packages a) (g.orders a) root softs new found
 
   -- the same with its proof, from a new encoding
   abbrev pub SolvesProblem : List ConditionalRequirement → List VersionSetId → List S → Solved N S → Type 0
-  SolvesProblem requirements constraints softs solved = (root : Rules) → IsRoot requirements constraints root
+  SolvesProblem requirements constraints softs solved = (root : Rules)
+      → IsRoot requirements constraints root
       → AreCandidates same (g.packages a) softs
       → IsSolved same (g.packages a) (g.orders a) root softs solved
 

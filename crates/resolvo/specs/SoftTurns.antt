@@ -43,7 +43,8 @@ AreTrueParents {N} {S} e = (s : S) → IsTrue e s → Contains e.parents.keys (P
 
 -- the literal denies the root, or one of these solvables
 abbrev pub DeniesOne : {N S : Type 0} → SolverState N S → (S → Type 0) → Signed → Type 0
-DeniesOne {N} {S} c among l = (l ≡ no root_variable) ⊎ ((t : S) × (u : VariableId) × (l ≡ no u) × Represents c.atoms.keys u (Solvable t) × among t)
+DeniesOne {N} {S} c among l = (l ≡ no root_variable)
+    ⊎ ((t : S) × (u : VariableId) × (l ≡ no u) × Represents c.atoms.keys u (Solvable t) × among t)
 
 -- The clause of this number, which is not the root's, was learnt, and denies nothing but these solvables.
 pub record IsReasonOf {N S : Type 0} (c : SolverState N S) (among : S → Type 0) (number : ℕ) : Type 0 where
@@ -68,13 +69,19 @@ pub record KeepsTrail {N S : Type 0} (old new : Encoder N S) : Type 0 where
 -- begins after the earlier trail. The trail and the accepted ones are unchanged after a refusal.
 abbrev pub IsOutcome : {N S : Type 0} → (S → S → Bool) → S → Encoder N S → Encoder N S → SoftOutcome → Type 0
 IsOutcome same s old new AlreadyChosen = (new.recorded.softs.items ≡ old.recorded.softs.items ++ s ∷ []) × (history new.coding.search ≡ history old.coding.search) × IsTrue new s
-IsOutcome same s old new Chosen = (new.recorded.softs.items ≡ old.recorded.softs.items ++ s ∷ []) × (base_of new ≡ history old.coding.search) × ((v : VariableId) × Represents new.coding.atoms.keys v (Solvable s) × IsTurn same (Some v) new None)
-IsOutcome same s old new (Refused clause) = (new.recorded.softs.items ≡ old.recorded.softs.items) × (history new.coding.search ≡ history old.coding.search) × (IsTrue new s → ⊥)
-IsOutcome same s old new (Unsat r) = IsRefusal new.coding.search r.literals.items r.causes.items × (r.literals.items ≡ [])
+IsOutcome same s old new Chosen = (new.recorded.softs.items ≡ old.recorded.softs.items ++ s ∷ [])
+    × (base_of new ≡ history old.coding.search)
+    × ((v : VariableId) × Represents new.coding.atoms.keys v (Solvable s)
+    × IsTurn same (Some v) new None)
+IsOutcome same s old new (Refused clause) = (new.recorded.softs.items ≡ old.recorded.softs.items)
+    × (history new.coding.search ≡ history old.coding.search) × (IsTrue new s → ⊥)
+IsOutcome same s old new (Unsat r) = IsRefusal new.coding.search r.literals.items r.causes.items
+    × (r.literals.items ≡ [])
 
 -- the variable is that of the last soft requirement
 abbrev pub IsLast : {N S : Type 0} → Encoder N S → VariableId → Type 0
-IsLast {N} {S} e v = (prefix : List S) × (s : S) × (e.recorded.softs.items ≡ prefix ++ s ∷ []) × Represents e.coding.atoms.keys v (Solvable s)
+IsLast {N} {S} e v = (prefix : List S) × (s : S) × (e.recorded.softs.items ≡ prefix ++ s ∷ [])
+    × Represents e.coding.atoms.keys v (Solvable s)
 
 -- the turn is that of the last soft requirement, and is refused
 abbrev pub IsRefusable : {N S : Type 0} → Encoder N S → FinalConflict → Type 0
@@ -93,7 +100,9 @@ pub record IsLearntAs {N S : Type 0} (c : SolverState N S) (literals : List Sign
 abbrev pub IsRejected : {N S : Type 0} → FinalConflict → Encoder N S → Encoder N S → SoftOutcome → Type 0
 IsRejected refusal old new AlreadyChosen = ⊥
 IsRejected refusal old new Chosen = ⊥
-IsRejected {N} {S} refusal old new (Refused clause) = (history new.coding.search ≡ base_of old) × ((prefix : List S) (s : S) → old.recorded.softs.items ≡ prefix ++ s ∷ [] → new.recorded.softs.items ≡ prefix) × IsLearntAs new.coding refusal.literals.items clause
+IsRejected {N} {S} refusal old new (Refused clause) = (history new.coding.search ≡ base_of old)
+    × ((prefix : List S) (s : S) → old.recorded.softs.items ≡ prefix ++ s ∷ []
+    → new.recorded.softs.items ≡ prefix) × IsLearntAs new.coding refusal.literals.items clause
 IsRejected refusal old new (Unsat r) = (r ≡ refusal) × (r.literals.items ≡ []) × (new ≡ old)
 
 -- a turn without a conflict chose the soft requirement, and nothing changed since; another one is
@@ -113,14 +122,16 @@ pub record KeepsRest {N S : Type 0} (old new : Encoder N S) : Type 0 where
 module _ {N S : Type 0} (same : S → S → Bool) (p : Packages N S) (root : Rules) where
   -- no rule-keeping set includes the solvable with all that is true on the trail
   abbrev pub IsDenied : Encoder N S → S → Type 0
-  IsDenied e s = (set : List S) → IsRuleKeeping same p root set → ((t : S) → IsTrue e t → is_in same p set t ≡ true) → is_in same p set s ≡ true → ⊥
+  IsDenied e s = (set : List S) → IsRuleKeeping same p root set
+      → ((t : S) → IsTrue e t → is_in same p set t ≡ true) → is_in same p set s ≡ true → ⊥
 
   -- A refusal is justified: no rule-keeping set includes the soft requirement with what was chosen
   -- before its turn. Its clause denies nothing else.
   abbrev pub IsJustified : Encoder N S → Encoder N S → S → SoftOutcome → Type 0
   IsJustified old new s AlreadyChosen = ⊤
   IsJustified old new s Chosen = ⊤
-  IsJustified old new s (Refused clause) = IsDenied old s × IsReasonOf new.coding (λ t. (t ≡ s) ⊎ IsTrue old t) clause.0
+  IsJustified old new s (Refused clause) = IsDenied old s
+      × IsReasonOf new.coding (λ t. (t ≡ s) ⊎ IsTrue old t) clause.0
   IsJustified old new s (Unsat r) = IsUnsolvable same p root
 
 -- The soft requirement was true or false before its turn, and this is the outcome. It took no place
@@ -130,11 +141,13 @@ pub record Settles {N S : Type 0} (same : S → S → Bool) (soft : S) (old new 
   pub places : new.registry ≡ old.registry
   pub lists : new.lists ≡ old.lists
   pub outcome : IsOutcome same soft old new decided
-  pub right : (p : Packages N S) (root : Rules) → IsLawful p → IsEncoding same p root old → IsEncoding same p root new × IsJustified same p root old new soft decided
+  pub right : (p : Packages N S) (root : Rules) → IsLawful p → IsEncoding same p root old
+      → IsEncoding same p root new × IsJustified same p root old new soft decided
 
 -- no variable of the solvable has a value
 abbrev pub IsOpenSoft : {N S : Type 0} → Encoder N S → S → Type 0
-IsOpenSoft e s = (v : VariableId) → Represents e.coding.atoms.keys v (Solvable s) → IsUndecided (made_true (history e.coding.search)) (yes v)
+IsOpenSoft e s = (v : VariableId) → Represents e.coding.atoms.keys v (Solvable s)
+    → IsUndecided (made_true (history e.coding.search)) (yes v)
 
 -- the same; or it was undecided, and nothing changed
 abbrev pub IsSettled : {N S : Type 0} → (S → S → Bool) → S → Encoder N S → Encoder N S → Option SoftOutcome → Type 0

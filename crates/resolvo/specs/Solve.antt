@@ -67,7 +67,8 @@ AreChosenOnce (Unsat r) = ⊤
 -- the conflict was derived from the clauses, and denies the root alone
 abbrev pub IsDenial : {N S : Type 0} → SolverState N S → SearchResult S → Type 0
 IsDenial c (Chosen v turns) = ⊤
-IsDenial c (Unsat r) = IsRefusal c.search r.literals.items r.causes.items × DenyRoot r.literals.items
+IsDenial c (Unsat r) = IsRefusal c.search r.literals.items r.causes.items
+    × DenyRoot r.literals.items
 
 -- The encoding is built, whatever the packages are, and a conflict follows from its clauses: its proof
 -- can be written.
@@ -80,22 +81,26 @@ pub record DeniesOnly {N S : Type 0} (steps : List (ProofStep N S)) (among : S �
   pub literals : Vec (ProofLiteral N S)
   pub causes : Vec ℕ
   pub derived : slice_get steps k ≡ Some (Derived literals causes)
-  pub denies : (l : ProofLiteral N S) → Contains literals.items l → (l.positive ≡ false) × ((s : S) × (l.atom ≡ Solvable s) × among s)
+  pub denies : (l : ProofLiteral N S) → Contains literals.items l
+      → (l.positive ≡ false) × ((s : S) × (l.atom ≡ Solvable s) × among s)
 
 -- The turn's step, which a refused soft requirement has, is derived. It denies only the soft
 -- requirement and the choices before its turn.
 pub record HasProof {N S : Type 0} (steps : List (ProofStep N S)) (chosen : List S) (t : Turn S) : Type 0 where
   pub accepted : t.accepted ≡ true → t.step ≡ None
-  pub refused : t.accepted ≡ false → (k : ℕ) × (t.step ≡ Some k) × DeniesOnly steps (IsDeniable chosen t) k
+  pub refused : t.accepted ≡ false
+      → (k : ℕ) × (t.step ≡ Some k) × DeniesOnly steps (IsDeniable chosen t) k
 
 -- each turn has its proof
 abbrev pub HaveProofs : {N S : Type 0} → List (ProofStep N S) → SearchResult S → Type 0
-HaveProofs {N} {S} steps (Chosen v turns) = (t : Turn S) → Contains turns.items t → HasProof steps v.items t
+HaveProofs {N} {S} steps (Chosen v turns) = (t : Turn S) → Contains turns.items t
+    → HasProof steps v.items t
 HaveProofs {N} {S} steps (Unsat r) = ⊤
 
 -- each turn has a learnt clause for its step
 abbrev pub HaveClauses : {N S : Type 0} → SolverState N S → SearchResult S → Type 0
-HaveClauses {N} {S} c (Chosen v turns) = (t : Turn S) → Contains turns.items t → HasReason c v.items t
+HaveClauses {N} {S} c (Chosen v turns) = (t : Turn S) → Contains turns.items t
+    → HasReason c v.items t
 HaveClauses {N} {S} c (Unsat r) = ⊤
 
 module _ {N S : Type 0} (same : S → S → Bool) (p : Packages N S) (root : Rules) (softs : List S) where
@@ -103,7 +108,8 @@ module _ {N S : Type 0} (same : S → S → Bool) (p : Packages N S) (root : Rul
   -- the root alone, and no solvables keep all rules.
   abbrev pub IsFound : Encoder N S → SearchResult S → Type 0
   IsFound e (Chosen v turns) = AreSolvedByTurn same p root v.items (first_of v.items turns.items) softs turns.items × HaveClauses e.coding (Chosen v turns)
-  IsFound e (Unsat r) = IsUnsolvable same p root × IsRefusal e.coding.search r.literals.items r.causes.items
+  IsFound e (Unsat r) = IsUnsolvable same p root
+      × IsRefusal e.coding.search r.literals.items r.causes.items
 
   -- the result holds: the choices of the turns, or that no solvables keep all rules
   abbrev pub Holds : SearchResult S → Type 0
@@ -113,7 +119,8 @@ module _ {N S : Type 0} (same : S → S → Bool) (p : Packages N S) (root : Rul
 module _ {N S : Type 0} (same : S → S → Bool) (p : Packages N S) (root : Rules) where
   -- each of these steps is valid at its place
   abbrev pub AreProved : List (ProofStep N S) → Type 0
-  AreProved steps = (same_atom : Atom N S → Atom N S → Bool) → IsExact same_atom → IsProof same_atom same p root steps
+  AreProved steps = (same_atom : Atom N S → Atom N S → Bool) → IsExact same_atom
+      → IsProof same_atom same p root steps
 
   -- Each of these steps is valid at its place, and each literal of a derived one is in an earlier
   -- one. An atom has one sign in it, and each solvable has one place.
@@ -129,7 +136,8 @@ module _ {N S : Type 0} (same : S → S → Bool) (p : Packages N S) (root : Rul
     pub encoding : IsEncoding same p root e
     pub count : clauses ≡ length e.coding.search.clauses
     pub waiting : deferred ≡ waiting_count e
-    pub each : (place : ℕ) (step : ProofStep N S) → suc place < clauses → slice_get steps place ≡ Some step → IsStepAt e.coding (suc place) step
+    pub each : (place : ℕ) (step : ProofStep N S) → suc place < clauses
+        → slice_get steps place ≡ Some step → IsStepAt e.coding (suc place) step
 
 module _ {N S : Type 0} (same : S → S → Bool) (p : Packages N S) (orders : Requirement → List S → Type 0) (root : Rules) where
   -- in the root's turn candidates were chosen in the order in which they are tried
@@ -155,7 +163,9 @@ module _ {N S : Type 0} (same : S → S → Bool) (p : Packages N S) (orders : R
     pub one_place : HaveOnePlace s.proof.items
     pub preferred : IsPreferred s.found
     pub proofs : HaveProofs s.proof.items s.found
-    pub counted : (e : Encoder N S) × IsCounted same p root e s.clause_count s.deferred_count s.proof.items × IsListedIn e s.found
+    pub counted : (e : Encoder N S)
+        × IsCounted same p root e s.clause_count s.deferred_count s.proof.items
+        × IsListedIn e s.found
 
 -- after a conflict the last step has no literals
 abbrev pub EndsSo : {N S : Type 0} → SearchResult S → List (ProofStep N S) → Type 0
@@ -193,6 +203,7 @@ pub record AreStepsOf {N S : Type 0} (c : SolverState N S) (f : SearchResult S) 
   pub proof : Proves c steps
   pub drawn : (same : S → S → Bool) (p : Packages N S) → Spelled same p c → AreDrawn same p steps
   pub signs : HaveOneSigns steps
-  pub places : (r : Registry N) (package_of : S → N) → AreTied r c → AreNamedBy r c package_of → HaveOnePlace steps
+  pub places : (r : Registry N) (package_of : S → N) → AreTied r c → AreNamedBy r c package_of
+      → HaveOnePlace steps
   pub ends : EndsSo f steps
   pub clauses : HasSteps c f steps ⊎ (RefusesNothing f × (steps ≡ []))

@@ -48,16 +48,19 @@ HoldsConflict {P} {N} {S} k clauses = (l : Left S) × (k.conflict ≡ Some l) ×
 
 -- The graph of the conflict that is kept, with the offers.
 abbrev pub IsGraphOf : {P N S : Type 0} → (N → N → Bool) → (S → S → Bool) → (S → N) → Kept P N S → Graph S → Type 0
-IsGraphOf {P} {N} {S} same_name same name_of k g = (l : Left S) → k.conflict ≡ Some l → g ≡ conflict_drawing same_name same name_of (offered_by l.offers) (conflict_rules k.proof)
+IsGraphOf {P} {N} {S} same_name same name_of k g = (l : Left S) → k.conflict ≡ Some l
+    → g ≡ conflict_drawing same_name same name_of (offered_by l.offers) (conflict_rules k.proof)
 
 -- Each edge of the graph is true of packages with these names, and of a root, where the kept steps
 -- are a proof. The offers must be right.
 abbrev pub IsTrueOf : {P N S : Type 0} → (S → S → Bool) → (S → N) → Kept P N S → Graph S → Type 0
-IsTrueOf {P} {N} {S} same name_of k g = (l : Left S) → k.conflict ≡ Some l → IsTrueConflictGraph same name_of (offered_by l.offers) k.proof g
+IsTrueOf {P} {N} {S} same name_of k g = (l : Left S) → k.conflict ≡ Some l
+    → IsTrueConflictGraph same name_of (offered_by l.offers) k.proof g
 
 -- the lines are those of that graph's message
 abbrev pub IsConflictMessage : {P N S : Type 0} → (N → N → Bool) → (S → S → Bool) → (S → N) → Kept P N S → List (MessageLine S) → Type 0
-IsConflictMessage {P} {N} {S} same_name same name_of k lines = (g : Graph S) × IsGraphOf same_name same name_of k g × IsMessage same_name same name_of g lines
+IsConflictMessage {P} {N} {S} same_name same name_of k lines = (g : Graph S)
+    × IsGraphOf same_name same name_of k g × IsMessage same_name same name_of g lines
 
 -- no clause, no case, no turn, no step and no conflict are left
 pub record HasNothing {P N S : Type 0} (k : Kept P N S) : Type 0 where
@@ -94,10 +97,15 @@ module _ {N S : Type 0} (same : S → S → Bool) (p : Packages N S) (root : Rul
   -- proof are right. The counts are those of an encoding of the problem with these steps, whose
   -- trail chooses these solvables.
   abbrev pub IsAnswer : {C P : Type 0} → Result (Vec S) (UnsolvableOrCancelled C) → Kept P N S → Type 0
-  IsAnswer (Ok v) k = AreSolvedByTurn same p root v.items (first_of v.items k.turns) softs k.turns × ArePreferred same p orders root (take (first_of v.items k.turns) v.items)
-      × ((t : Turn S) → Contains k.turns t → HasProof k.proof v.items t) × AreRightSteps same p root k.proof
-      × ((e : Encoder N S) × IsCounted same p root e k.clause_count k.deferred_count k.proof × AreOnTrail e v.items)
-  IsAnswer (Err (Unsolvable conflict)) k = IsUnsolvable same p root × AreRightSteps same p root k.proof × ((e : Encoder N S) × IsCounted same p root e k.clause_count k.deferred_count k.proof)
+  IsAnswer (Ok v) k = AreSolvedByTurn same p root v.items (first_of v.items k.turns) softs k.turns
+      × ArePreferred same p orders root (take (first_of v.items k.turns) v.items)
+      × ((t : Turn S) → Contains k.turns t → HasProof k.proof v.items t)
+      × AreRightSteps same p root k.proof
+      × ((e : Encoder N S) × IsCounted same p root e k.clause_count k.deferred_count k.proof
+      × AreOnTrail e v.items)
+  IsAnswer (Err (Unsolvable conflict)) k = IsUnsolvable same p root
+      × AreRightSteps same p root k.proof
+      × ((e : Encoder N S) × IsCounted same p root e k.clause_count k.deferred_count k.proof)
       × ((l : Left S) × (k.conflict ≡ Some l) × AreOffers same p orders k.proof l.offers)
   IsAnswer (Err (Cancelled value)) k = ⊤
   IsAnswer (Err Memory) k = ⊤
@@ -112,7 +120,9 @@ module _ {N S : Type 0} (same : S → S → Bool) (p : Packages N S) (root : Rul
 -- nothing.
 abbrev pub Leaves : {N S C P : Type 0} → Result (Vec S) (UnsolvableOrCancelled C) → Kept P N S → Type 0
 Leaves (Ok v) k = (k.clause_count ≡ length k.proof + 1) × (k.conflict ≡ None)
-Leaves (Err (Unsolvable conflict)) k = (k.clause_count ≡ length k.proof) × EndsEmpty k.proof × (k.turns ≡ []) × HoldsConflict k conflict.clauses.items × (conflict.clauses.items ≡ conflict_clauses k.proof)
+Leaves (Err (Unsolvable conflict)) k = (k.clause_count ≡ length k.proof) × EndsEmpty k.proof
+    × (k.turns ≡ []) × HoldsConflict k conflict.clauses.items
+    × (conflict.clauses.items ≡ conflict_clauses k.proof)
 Leaves (Err (Cancelled value)) k = HasNothing k
 Leaves (Err Memory) k = HasNothing k
 Leaves (Err Ids) k = HasNothing k
@@ -125,8 +135,12 @@ LeavesBy {N} {S} {C} {P} (Err e) steps k = Leaves (Err e) k
 
 -- the results of a search are kept, and returned
 abbrev pub Keeps : {P N S C : Type 0} → Solved N S → Vec ClauseId → Option (Left S) → Kept P N S → Result (Vec S) (UnsolvableOrCancelled C) → Kept P N S → Type 0
-Keeps {P} {N} {S} {C} s ids left old (Ok v) new = (turns : Vec (Turn S)) × (s.found ≡ Chosen v turns) × (new ≡ record old { clause_count = s.clause_count; deferred_count = s.deferred_count; turns = turns.items; proof = s.proof.items; conflict = left })
-Keeps {P} {N} {S} {C} s ids left old (Err (Unsolvable conflict)) new = (r : FinalConflict) × (s.found ≡ Unsat r) × (conflict.clauses ≡ ids) × (new ≡ record old { clause_count = s.clause_count; deferred_count = s.deferred_count; proof = s.proof.items; conflict = left })
+Keeps {P} {N} {S} {C} s ids left old (Ok v) new = (turns : Vec (Turn S))
+    × (s.found ≡ Chosen v turns)
+    × (new ≡ record old { clause_count = s.clause_count; deferred_count = s.deferred_count; turns = turns.items; proof = s.proof.items; conflict = left })
+Keeps {P} {N} {S} {C} s ids left old (Err (Unsolvable conflict)) new = (r : FinalConflict)
+    × (s.found ≡ Unsat r) × (conflict.clauses ≡ ids)
+    × (new ≡ record old { clause_count = s.clause_count; deferred_count = s.deferred_count; proof = s.proof.items; conflict = left })
 Keeps {P} {N} {S} {C} s ids left old (Err (Cancelled value)) new = ⊥
 Keeps {P} {N} {S} {C} s ids left old (Err Memory) new = ⊥
 Keeps {P} {N} {S} {C} s ids left old (Err Ids) new = ⊥

@@ -55,7 +55,9 @@ module _ {N S : Type 0} (same : S → S → Bool) (p : Packages N S) (root : Rul
     pub ended : IsAccepted same p root (accepted_by accepted t) (take t.end chosen)
     pub decided : t.accepted ≡ is_in same p (take t.end chosen) soft
     pub still : t.accepted ≡ false → t.end ≡ t.begin
-    pub refused : t.accepted ≡ false → (set : List S) → IsRuleKeeping same p root set → ((s : S) → is_in same p (take t.begin chosen) s ≡ true → is_in same p set s ≡ true) → is_in same p set soft ≡ true → ⊥
+    pub refused : t.accepted ≡ false → (set : List S) → IsRuleKeeping same p root set
+        → ((s : S) → is_in same p (take t.begin chosen) s ≡ true → is_in same p set s ≡ true)
+        → is_in same p set soft ≡ true → ⊥
 
   -- the turns of the soft requirements, both newest first; each begins where the one before it
   -- ended
@@ -63,7 +65,8 @@ module _ {N S : Type 0} (same : S → S → Bool) (p : Packages N S) (root : Rul
   AreTurns first [] [] = Unit {0}
   AreTurns first [] (t ∷ earlier) = ⊥
   AreTurns first (w ∷ before) [] = ⊥
-  AreTurns first (w ∷ before) (t ∷ earlier) = (t.begin ≡ end_of first earlier) × IsTurnOf (accepted_of earlier) w t × AreTurns first before earlier
+  AreTurns first (w ∷ before) (t ∷ earlier) = (t.begin ≡ end_of first earlier)
+      × IsTurnOf (accepted_of earlier) w t × AreTurns first before earlier
 
   -- the turns of the soft requirements; each begins where the one before it ended, the first one
   -- after so many choices and these accepted ones
@@ -71,7 +74,8 @@ module _ {N S : Type 0} (same : S → S → Bool) (p : Packages N S) (root : Rul
   AreInTurn begin accepted [] [] = Unit {0}
   AreInTurn begin accepted [] (t ∷ later) = ⊥
   AreInTurn begin accepted (w ∷ ws) [] = ⊥
-  AreInTurn begin accepted (w ∷ ws) (t ∷ later) = (t.begin ≡ begin) × IsTurnOf accepted w t × AreInTurn t.end (accepted_by accepted t) ws later
+  AreInTurn begin accepted (w ∷ ws) (t ∷ later) = (t.begin ≡ begin) × IsTurnOf accepted w t
+      × AreInTurn t.end (accepted_by accepted t) ws later
 
   -- The first choices are a solution, in the root's turn; the others were chosen in the turns of
   -- the soft requirements.
@@ -101,11 +105,13 @@ pub record AreRight {N S : Type 0} (same : S → S → Bool) (p : Packages N S) 
 -- which denies only the soft requirement and the choices before its turn.
 pub record HasReason {N S : Type 0} (c : SolverState N S) (chosen : List S) (t : Turn S) : Type 0 where
   pub accepted : t.accepted ≡ true → t.step ≡ None
-  pub refused : t.accepted ≡ false → (k : ℕ) × (t.step ≡ Some k) × IsReasonOf c (IsDeniable chosen t) (suc k)
+  pub refused : t.accepted ≡ false
+      → (k : ℕ) × (t.step ≡ Some k) × IsReasonOf c (IsDeniable chosen t) (suc k)
 
 -- each turn has its reason
 abbrev pub HaveReasons : {N S : Type 0} → SolverState N S → Turns S → Type 0
-HaveReasons {N} {S} c t = (turn : Turn S) → Contains t.turns.items turn → HasReason c t.chosen.keys turn
+HaveReasons {N} {S} c t = (turn : Turn S) → Contains t.turns.items turn
+    → HasReason c t.chosen.keys turn
 
 -- each turn accepted its soft requirement
 abbrev pub AreAccepted : {S : Type 0} → List (Turn S) → Type 0
@@ -143,20 +149,25 @@ pub record Records {S : Type 0} (soft : S) (begin : ℕ) (wished : SoftOutcome) 
 -- the choices are right after these soft requirements, and each turn has its reason; or the rules
 -- can't all be kept
 abbrev pub IsNextRight : {N S : Type 0} → (S → S → Bool) → Packages N S → Rules → ℕ → List S → Encoder N S → Turns S → Option FinalConflict → Type 0
-IsNextRight same p root first softs e t None = AreRight same p root first softs t × HaveReasons e.coding t
+IsNextRight same p root first softs e t None = AreRight same p root first softs t
+    × HaveReasons e.coding t
 IsNextRight same p root first softs e t (Some r) = IsUnsolvable same p root
 
 -- the turns list the choices of the trail; or the problem is refuted
 abbrev pub AreAtOrRefused : {N S : Type 0} → Encoder N S → Turns S → Option FinalConflict → Type 0
 AreAtOrRefused e t None = AreAt e t
-AreAtOrRefused e t (Some r) = IsRefusal e.coding.search r.literals.items r.causes.items × (r.literals.items ≡ [])
+AreAtOrRefused e t (Some r) = IsRefusal e.coding.search r.literals.items r.causes.items
+    × (r.literals.items ≡ [])
 
 -- The turn is added after the others, and if its soft requirement was chosen in it, its choices are
 -- listed. Or nothing changed, and this is the conflict of the problem.
 abbrev pub RecordsOutcome : {N S : Type 0} → (S → S → Bool) → S → Encoder N S → Turns S → Turns S → SoftOutcome → Option FinalConflict → Type 0
 RecordsOutcome same s e old new AlreadyChosen None = Records s (length old.chosen.keys) AlreadyChosen old new
 RecordsOutcome same s e old new AlreadyChosen (Some q) = ⊥
-RecordsOutcome {N} {S} same s e old new Chosen None = (m : Turns S) × IsPrefixOf old.chosen.keys m.chosen.keys × (m.chosen.keys ≡ insert_all same old.chosen.keys (in_turn e)) × (m.turns ≡ old.turns) × Records s (length old.chosen.keys) Chosen m new
+RecordsOutcome {N} {S} same s e old new Chosen None = (m : Turns S)
+    × IsPrefixOf old.chosen.keys m.chosen.keys
+    × (m.chosen.keys ≡ insert_all same old.chosen.keys (in_turn e)) × (m.turns ≡ old.turns)
+    × Records s (length old.chosen.keys) Chosen m new
 RecordsOutcome same s e old new Chosen (Some q) = ⊥
 RecordsOutcome same s e old new (Refused clause) None = Records s (length old.chosen.keys) (Refused clause) old new
 RecordsOutcome same s e old new (Refused clause) (Some q) = ⊥

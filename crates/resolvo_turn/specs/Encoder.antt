@@ -16,7 +16,8 @@ use Rattle.resolvo_sat.specs.RuleClauses.{cases_for}
 
 -- the root has these requirements and constraints
 abbrev pub IsRoot : List ConditionalRequirement → List VersionSetId → Rules → Type 0
-IsRoot requirements constraints root = (root.requirements ≡ requirements) × (root.constraints ≡ constraints)
+IsRoot requirements constraints root = (root.requirements ≡ requirements)
+    × (root.constraints ≡ constraints)
 
 -- the parent, whose dependencies are known, has these requirements and constraints
 pub record AreRulesOf {N S : Type 0} (same : S → S → Bool) (p : Packages N S) (root : Rules) (parent : Option S) (needs : List ConditionalRequirement) (limits : List VersionSetId) : Type 0 where
@@ -36,15 +37,18 @@ IsInOrderBy same g a root e = IsInOrder same (g.packages a) (g.orders a) root e
 
 -- an encoding in order stays one, whatever the root
 abbrev pub StaysInOrder : {A N S C : Type 0} → (S → S → Bool) → source.Ghosts A N S C → A → Encoder N S → Encoder N S → Type 0
-StaysInOrder same g a old new = (root : Rules) → IsInOrderBy same g a root old → IsInOrderBy same g a root new
+StaysInOrder same g a old new = (root : Rules) → IsInOrderBy same g a root old
+    → IsInOrderBy same g a root new
 
 -- each of these cases of the parent's requirement is deferred, or was
 abbrev pub AreDeferred : {N S : Type 0} → Encoder N S → Option S → ConditionalRequirement → List (List VersionSetId) → Type 0
-AreDeferred {N} {S} e parent need cases = (case : List VersionSetId) → Contains cases case → IsDeferred e parent need case
+AreDeferred {N} {S} e parent need cases = (case : List VersionSetId) → Contains cases case
+    → IsDeferred e parent need case
 
 -- each case of the parent's requirement is a clause, or deferred
 abbrev pub IsConditionalEncoded : {N S : Type 0} → (S → S → Bool) → Packages N S → Encoder N S → Option S → ConditionalRequirement → Type 0
-IsConditionalEncoded {N} {S} same p e parent need = (case : List VersionSetId) → Contains (cases_for same p need) case → IsCaseEncoded same p e parent need case
+IsConditionalEncoded {N} {S} same p e parent need = (case : List VersionSetId)
+    → Contains (cases_for same p need) case → IsCaseEncoded same p e parent need case
 
 -- marked packages stay marked
 abbrev pub KeepsMarks : {N S : Type 0} → Encoder N S → Encoder N S → Type 0

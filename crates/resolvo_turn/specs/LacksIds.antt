@@ -36,18 +36,25 @@ module _ {A N S C : Type 0} (same : S → S → Bool) (g : source.Ghosts A N S C
 
   -- where the parent has this requirement
   abbrev pub StopsNeed : Option S → ConditionalRequirement → Encoder N S → Type 0
-  StopsNeed parent need new = (root : Rules) → Contains (rules_for same (g.packages a) root parent).requirements need → LacksIds same g a root new
+  StopsNeed parent need new = (root : Rules)
+      → Contains (rules_for same (g.packages a) root parent).requirements need
+      → LacksIds same g a root new
 
   -- the same where the encoding was in order
   abbrev pub StopsOne : Option S → ConditionalRequirement → Encoder N S → Encoder N S → Type 0
-  StopsOne parent need old new = (root : Rules) → IsInOrderBy same g a root old → Contains (rules_for same (g.packages a) root parent).requirements need → LacksIds same g a root new
+  StopsOne parent need old new = (root : Rules) → IsInOrderBy same g a root old
+      → Contains (rules_for same (g.packages a) root parent).requirements need
+      → LacksIds same g a root new
 
   -- the same of these requirements
   abbrev pub StopsAll : Option S → List ConditionalRequirement → Encoder N S → Encoder N S → Type 0
   StopsAll parent needs old new = (root : Rules) → IsInOrderBy same g a root old
-      → ((need : ConditionalRequirement) → Contains needs need → Contains (rules_for same (g.packages a) root parent).requirements need)
+      → ((need : ConditionalRequirement) → Contains needs need
+      → Contains (rules_for same (g.packages a) root parent).requirements need)
       → LacksIds same g a root new
 
   -- where the parent, whose dependencies are known, has these requirements and constraints
   abbrev pub StopsKnown : Option S → List ConditionalRequirement → List VersionSetId → Encoder N S → Encoder N S → Type 0
-  StopsKnown parent requirements constraints old new = (root : Rules) → AreRulesOf same (g.packages a) root parent requirements constraints → IsInOrderBy same g a root old → LacksIds same g a root new
+  StopsKnown parent requirements constraints old new = (root : Rules)
+      → AreRulesOf same (g.packages a) root parent requirements constraints
+      → IsInOrderBy same g a root old → LacksIds same g a root new

@@ -17,7 +17,10 @@ pub record MatchesSets {N S : Type 0} (same : S → S → Bool) (sets : List (Co
   pub built : IsBuilt new
   pub extends : Extends old new
   pub lists : new.lists ≡ old.lists
-  pub encoding : (p : Packages N S) (root : Rules) → IsLawful p → IsEncoding same p root old → AreSets same p sets → ((v : VersionSetId) → Contains (sets_case sets) v → IsOfCase same p root v) → IsEncoding same p root new
+  pub encoding : (p : Packages N S) (root : Rules) → IsLawful p → IsEncoding same p root old
+      → AreSets same p sets
+      → ((v : VersionSetId) → Contains (sets_case sets) v → IsOfCase same p root v)
+      → IsEncoding same p root new
 
 -- The same of the version sets of a case of the parent's requirement: an encoding in order stays one.
 abbrev pub MatchesCase : {A N S C : Type 0} → (S → S → Bool) → source.Ghosts A N S C → A → Option S → ConditionalRequirement → List (ConditionSet N S) → Encoder N S → Encoder N S → Type 0

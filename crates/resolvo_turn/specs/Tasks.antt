@@ -40,9 +40,14 @@ AreExcluded {N} {S} excluded e = (s : S) → Contains excluded s → IsForbidden
 -- were excluded before.
 pub record Excludes {N S : Type 0} (same : S → S → Bool) (s : S) (why : StringId) (before after : List S) (old new : Encoder N S) : Type 0 where
   pub lists : new.lists ≡ old.lists
-  pub stays : (p : Packages N S) (root : RootRules) → IsLawful p → p.dependencies_of s ≡ needs_of (Unknown why) → IsEncoding same p root old → IsEncoding same p root new
-  pub excluded : (p : Packages N S) (root : RootRules) → IsLawful p → p.dependencies_of s ≡ needs_of (Unknown why) → IsEncoding same p root old → AreExcluded before old → AreExcluded after new × IsForbidden (rules_of new) s
+  pub stays : (p : Packages N S) (root : RootRules) → IsLawful p
+      → p.dependencies_of s ≡ needs_of (Unknown why) → IsEncoding same p root old
+      → IsEncoding same p root new
+  pub excluded : (p : Packages N S) (root : RootRules) → IsLawful p
+      → p.dependencies_of s ≡ needs_of (Unknown why) → IsEncoding same p root old
+      → AreExcluded before old → AreExcluded after new × IsForbidden (rules_of new) s
 
 -- where an encoding was in order, clauses still exclude what was excluded
 abbrev pub KeepsExcluded : {A N S C : Type 0} → (S → S → Bool) → source.Ghosts A N S C → A → List S → List S → Encoder N S → Encoder N S → Type 0
-KeepsExcluded same g a before after old new = (root : RootRules) → IsInOrderBy same g a root old → AreExcluded before old → AreExcluded after new
+KeepsExcluded same g a before after old new = (root : RootRules) → IsInOrderBy same g a root old
+    → AreExcluded before old → AreExcluded after new

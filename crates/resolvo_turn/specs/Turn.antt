@@ -29,7 +29,9 @@ AreTakenParents {N} {S} e = (s : S) → IsTaken e s → Contains e.parents.keys 
 
 -- the rules of the root and of each chosen solvable are clauses
 abbrev pub AreChosenEncoded : {N S : Type 0} → Encoder N S → Type 0
-AreChosenEncoded {N} {S} e = (members : List S) → AreChosen e.coding.atoms.keys (made_true (history e.coding.search)) members → AreAmongEncoded e members
+AreChosenEncoded {N} {S} e = (members : List S)
+    → AreChosen e.coding.atoms.keys (made_true (history e.coding.search)) members
+    → AreAmongEncoded e members
 
 -- the turn's soft requirement, if there is one, is true
 abbrev pub HasSoft : {N S : Type 0} → Option VariableId → Encoder N S → Type 0
@@ -40,7 +42,8 @@ HasSoft (Some v) e = has (made_true (history e.coding.search)) (yes v) ≡ true
 -- trail before its turn
 abbrev pub IsRefusedBy : {N S : Type 0} → Option VariableId → Encoder N S → FinalConflict → Type 0
 IsRefusedBy None e r = IsRefusal e.coding.search r.literals.items r.causes.items
-IsRefusedBy (Some v) e r = (IsRefusal e.coding.search r.literals.items r.causes.items × HasSoft (Some v) e) ⊎ IsTried e v (Some r)
+IsRefusedBy (Some v) e r = (IsRefusal e.coding.search r.literals.items r.causes.items
+    × HasSoft (Some v) e) ⊎ IsTried e v (Some r)
 
 -- nothing is left to propagate or to decide in the turn, or it is refused
 abbrev pub IsDecisionOf : {N S : Type 0} → Option VariableId → Encoder N S → Option FinalConflict → Type 0
@@ -57,13 +60,16 @@ IsBegunBy (Some v) e (Some r) = IsTried e v (Some r)
 -- nothing is left to propagate, decide or encode, no deferred case holds, and no clause waits; or
 -- the turn is refused
 abbrev pub IsTurn : {N S : Type 0} → (S → S → Bool) → Option VariableId → Encoder N S → Option FinalConflict → Type 0
-IsTurn same soft e None = IsDone e × AreChosenEncoded e × AreSpent same e × IsWhole e × HasSoft soft e
+IsTurn same soft e None = IsDone e × AreChosenEncoded e × AreSpent same e × IsWhole e
+    × HasSoft soft e
 IsTurn same soft e (Some r) = IsRefusedBy soft e r
 
 -- the chosen solvables are among the parents
 pub record AddsChosen {N S : Type 0} (old new : Encoder N S) : Type 0 where
   pub added : AddsParent old new
-  pub chosen : (members : List S) → AreChosen new.coding.atoms.keys (made_true (history new.coding.search)) members → (s : S) → Contains members s → Contains new.parents.keys (Solvable s)
+  pub chosen : (members : List S)
+      → AreChosen new.coding.atoms.keys (made_true (history new.coding.search)) members → (s : S)
+      → Contains members s → Contains new.parents.keys (Solvable s)
 
 -- the root is the first parent
 abbrev pub IsRooted : {N S : Type 0} → Encoder N S → Type 0
@@ -81,7 +87,8 @@ IsWaiting e = e.encoded < length e.parents.keys
 -- More parents are encoded, more cases became clauses, or there is a parent to encode where there
 -- was none.
 abbrev pub MakesProgress : {N S : Type 0} → Encoder N S → Encoder N S → Type 0
-MakesProgress old new = ((old.encoded < new.encoded) × (new.encoded < 18446744073709551616)) ⊎ (FiresMore old new ⊎ ((length old.parents.keys ≤ old.encoded) × IsWaiting new))
+MakesProgress old new = ((old.encoded < new.encoded) × (new.encoded < 18446744073709551616))
+    ⊎ (FiresMore old new ⊎ ((length old.parents.keys ≤ old.encoded) × IsWaiting new))
 
 -- A bound of the rounds: one for each parent and for each case that may still be encoded. One more
 -- where no parent is to be encoded.

@@ -14,8 +14,10 @@ IsRootOf input root = IsRoot input.requirements.now input.constraints.now root
 module _ {A N S C : Type 0} (same : S → S → Bool) (g : source.Ghosts A N S C) (a : A) where
   -- an encoding in order of such a root stays one
   abbrev pub StaysInOrderOf : TurnInput → Encoder N S → Encoder N S → Type 0
-  StaysInOrderOf input old new = (root : Rules) → IsRootOf input root → IsInOrderBy same g a root old → IsInOrderBy same g a root new
+  StaysInOrderOf input old new = (root : Rules) → IsRootOf input root
+      → IsInOrderBy same g a root old → IsInOrderBy same g a root new
 
   -- ids lack, where the encoding was in order
   abbrev pub StopsInOrderOf : TurnInput → Encoder N S → Encoder N S → Type 0
-  StopsInOrderOf input old new = (root : Rules) → IsRootOf input root → IsInOrderBy same g a root old → LacksIds same g a root new
+  StopsInOrderOf input old new = (root : Rules) → IsRootOf input root
+      → IsInOrderBy same g a root old → LacksIds same g a root new
