@@ -136,8 +136,8 @@ fn is_empty_problem<S>(
     requirements.is_empty() && constraints.is_empty() && softs.is_empty()
 }
 
-/// The result of a problem without requirements, over a new encoding. It stops with the value of a
-/// cancellation.
+/// The result of a problem without requirements, over a new encoding. Nothing is asked for, but
+/// whether to stop: then it is an error, with the value of the cancellation.
 fn find_nothing<A: PackageSource>(
     alloc: Global,
     answers: &A,

@@ -92,9 +92,13 @@ pub struct Deferred<S> {
 
 /// The state of the encoder.
 pub struct Encoder<N: Copy + Exact + Hash, S: Copy + Exact + Hash> {
+    /// The CDCL core, with the origin of each variable and the kind of each clause.
     pub coding: SolverState<N, S>,
+    /// The registered solvables of each package.
     pub registry: Registry<N>,
+    /// The candidates of requirements, and the literals of cases.
     pub lists: FixedLists<N>,
+    /// The requires clauses, from which the next decision is taken.
     pub queue: DecideQueue<N>,
     /// The gate of each requirement that has one.
     pub gates: RequirementMap<VariableId>,

@@ -161,7 +161,8 @@ impl<N: Copy + Exact + Hash + Debug + Drop, S: Copy + Exact + Hash + Debug> Enco
         Ok(())
     }
 
-    /// Forbids a solvable: by a unit clause, or beside the root where another one is locked.
+    /// Forbids a solvable: by a unit clause, or by one that denies the root too, where another
+    /// solvable is locked.
     fn deny(&mut self, solvable: S, kind: ClauseKind<N, S>) -> R<()>
         requires built { IsBuilt self.old }
         requires plain { IsPlain kind }
@@ -197,8 +198,8 @@ impl<N: Copy + Exact + Hash + Debug + Drop, S: Copy + Exact + Hash + Debug> Enco
         Ok(())
     }
 
-    /// Encodes that a parent's version set forbids all candidates outside it. Where clauses encode
-    /// which these are, its constraint is encoded then.
+    /// Adds the clause from a parent to its constraint's auxiliary variable. It forbids the
+    /// candidates outside the version set, where clauses encode which these are.
     pub fn limit_outside(&mut self, parent: Option<S>, version_set: VersionSetId) -> R<()>
         requires { IsBuilt self.old }
         // After an answer.

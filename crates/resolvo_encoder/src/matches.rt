@@ -1,6 +1,6 @@
 //! Clauses of matches, for the conditions' version sets of packages that are marked `many`: a
-//! chosen match makes the version set's variable true. One outside it may be chosen beside a match,
-//! so it says nothing of a case.
+//! chosen match makes the version set's variable true. A candidate outside it may be chosen beside
+//! a match, so it can't make a case false, as it does in other packages.
 ghost use Rattle.std.specs.Prelude.{◌≡◌, ◌∷◌, [], true, OnOk, IfOk, IsErrOf, IsOkUnless};
 ghost use Rattle.resolvo_pool_core.specs.declared.want.Want.TheVariants.{Memory, Ids};
 ghost use Rattle.resolvo_sat.specs.RuleClauses.{Rule};

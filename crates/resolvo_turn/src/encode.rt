@@ -1,5 +1,5 @@
-//! The tasks of an encoding: parents are asked for and their rules encoded, in the order of the
-//! parents, and cases that hold.
+//! Does the tasks of an encoding: asks for the dependencies of parents and encodes their rules, in
+//! the order of the parents, and encodes cases that hold.
 ghost use Rattle.std.specs.Prelude.{◌≡◌, ◌<◌, ◌+◌, false, [], IfOk, IfErr, OnOk, IsErrOf, Contains};
 ghost use Rattle.std.specs.Bool.{Decides};
 ghost use Rattle.resolvo_pool.specs.Cached.{IsCancelledBy};

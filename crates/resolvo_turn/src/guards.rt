@@ -1,4 +1,5 @@
-//! Locks, exclusions and marks of packages become clauses before their candidates are registered.
+//! Before the candidates of a package are registered, its locks and exclusions become clauses, and
+//! its mark is recorded.
 ghost use Rattle.std.specs.Prelude.{◌≡◌, IfErr, OnOk, IsErrOf};
 ghost use Rattle.resolvo_pool.specs.Cached.{IsCancelledBy};
 ghost use Rattle.resolvo_pool.specs.declared.cache.CacheFault.TheVariants.{Ids};

@@ -1,5 +1,5 @@
-//! Requirements and constraints of a parent become clauses. The packages that they name come before
-//! its clauses, and aren't asked for earlier.
+//! Requirements and constraints of a parent become clauses. The locks and exclusions of the packages
+//! that they name come first. A package is asked for only when a parent that names it is encoded.
 ghost use Rattle.std.specs.Prelude.{◌≡◌, IfErr, OnOk, IsErrOf, IsOkUnless};
 ghost use Rattle.resolvo_pool.specs.Cached.{IsCancelledBy};
 ghost use Rattle.resolvo_pool.specs.declared.cache.CacheFault.TheVariants.{Ids};
@@ -67,8 +67,8 @@ fn require<A: PackageSource>(
     Ok(())
 }
 
-/// Encodes that a parent needs a candidate of a requirement without a condition. Where it has its
-/// candidates, they are parents, and their locks and exclusions are encoded.
+/// Encodes that a parent needs a candidate of a requirement without a condition. Where the
+/// requirement has its candidates already, nothing is asked for: their packages are guarded.
 fn encode_plain_need<A: PackageSource>(
     alloc: Global,
     answers: &mut A,

@@ -19,7 +19,7 @@ use std::hash::Hash;
 pub enum Task<S> {
     /// The dependencies of this parent are asked for.
     Dependencies(SolvableIdOrRoot<S>),
-    /// The rules of the next parent are encoded. The parents have the same order.
+    /// The rules of the next parent are encoded, in the order of the tasks for dependencies.
     Rules,
     /// The matches of the deferred case at this place are encoded, before the clauses of several
     /// cases of one need.
@@ -31,7 +31,7 @@ pub enum Task<S> {
 /// The tasks of an encoding.
 #[derive(Drop)]
 pub struct Tasks<S> {
-    /// All since the queue was empty last.
+    /// All tasks since there was none.
     queue: Vec<Task<S>>,
     /// The number of those that are taken.
     taken: usize,
@@ -80,8 +80,8 @@ impl<S: Copy + Exact + Hash + Debug> Tasks<S> {
         Some(task)
     }
 
-    /// The dependencies of each parent that came since the last call are asked for, behind the
-    /// other tasks.
+    /// Puts a task for each parent that was added since the last call behind the others: it asks
+    /// for the parent's dependencies.
     pub(crate) fn push_parents(&mut self, parents: &[SolvableIdOrRoot<S>]) -> R<()>
         ensures bound { OnOk result (bound self.new ≤ bound self.old) }
         ensures refusal { IsOkUnless result Memory }
@@ -93,7 +93,7 @@ impl<S: Copy + Exact + Hash + Debug> Tasks<S> {
         Ok(())
     }
 
-    /// The deferred case at this place is encoded, if it holds.
+    /// Puts a task for the deferred case at this place behind the others, if the case holds.
     fn push_if_due<N: Copy + Exact + Hash + Debug + Drop>(
         &mut self,
         encoding: &Encoder<N, S>,
@@ -108,7 +108,7 @@ impl<S: Copy + Exact + Hash + Debug> Tasks<S> {
         Ok(())
     }
 
-    /// The deferred cases at these places that hold are encoded, in this order.
+    /// The same for the deferred cases at these places, in this order.
     pub(crate) fn push_each<N: Copy + Exact + Hash + Debug + Drop>(
         &mut self,
         encoding: &Encoder<N, S>,
@@ -123,8 +123,8 @@ impl<S: Copy + Exact + Hash + Debug> Tasks<S> {
         Ok(())
     }
 
-    /// The cases at these places are encoded, in this order. Where there are several, the matches
-    /// of all come before the clauses.
+    /// Puts tasks for the cases at these places behind the others, in this order. Where there are
+    /// several, the matches of all come before the clauses.
     fn push_cases(&mut self, places: &[usize]) -> R<()>
         ensures { IsOkUnless result Memory }
     {
@@ -139,8 +139,8 @@ impl<S: Copy + Exact + Hash + Debug> Tasks<S> {
         Ok(())
     }
 
-    /// The deferred cases from this place on that hold are encoded, in their order. Parents that
-    /// came before go first.
+    /// Puts tasks for the deferred cases from this place on that hold behind the others. Parents
+    /// that were added before come first.
     pub(crate) fn push_from<N: Copy + Exact + Hash + Debug + Drop>(
         &mut self,
         alloc: Global,

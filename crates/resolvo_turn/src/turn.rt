@@ -131,7 +131,7 @@ fn encode<A: PackageSource>(
 }
 
 /// Encodes the cases that hold, when nothing is left to decide. Answers whether there was one; if
-/// not, nothing changed. The next round ends the encoding.
+/// not, nothing changed. The clauses that wait for an encoding's end come in the next round.
 fn fire<A: PackageSource>(
     alloc: Global,
     answers: &mut A,
@@ -161,8 +161,8 @@ fn fire<A: PackageSource>(
     Ok(true)
 }
 
-/// Assumes the turn's soft requirement, if there is one and it isn't true. The conflict, if it is
-/// false.
+/// Assumes the turn's soft requirement, if there is one and it isn't true. Answers the conflict, if
+/// it is false.
 fn choose_first<N: Copy + Exact + Hash + Debug, S: Copy + Exact + Hash + Debug>(
     alloc: Global,
     encoding: &mut Encoder<N, S>,
@@ -211,8 +211,8 @@ fn undo_falsified<N: Copy + Exact + Hash + Debug, S: Copy + Exact + Hash + Debug
 }
 
 /// Begins the search after an encoding: assumes the turn's soft requirement, and propagates. Where
-/// a clause is falsified above the turn's base level, the turn begins again. The scan follows. The
-/// conflict, if the soft requirement is false.
+/// a clause is falsified above the turn's base level, the turn begins again, and the scan goes back.
+/// Answers the conflict, if the soft requirement is false.
 fn begin_search<N: Copy + Exact + Hash + Debug, S: Copy + Exact + Hash + Debug>(
     alloc: Global,
     encoding: &mut Encoder<N, S>,
@@ -348,8 +348,8 @@ fn add_new_chosen<A: PackageSource>(
     Ok(())
 }
 
-/// Scans the choices since the last scan. Whether there is a parent to encode then, or a case
-/// became a clause. Where there is a parent, the cases are encoded behind it.
+/// Scans the choices since the last scan. Answers whether there is a parent to encode then, or a
+/// case became a clause. Where there is a parent, the cases are encoded behind it.
 fn scan_new<A: PackageSource>(
     alloc: Global,
     answers: &mut A,
@@ -381,8 +381,8 @@ fn scan_new<A: PackageSource>(
     Ok(has_fired)
 }
 
-/// Scans all that was chosen in the turn, and all deferred cases. Whether there is a parent to
-/// encode then, or a case became a clause.
+/// Scans all that was chosen in the turn, and all deferred cases. Answers whether there is a parent
+/// to encode then, or a case became a clause.
 fn scan_all<A: PackageSource>(
     alloc: Global,
     answers: &mut A,
