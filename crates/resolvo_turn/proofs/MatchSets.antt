@@ -1,10 +1,10 @@
 -- The matches of a case's version sets, one after the other.
-use Rattle.std.proofs.Common.{◌≡◌, Bool, true, false, List, [], ◌∷◌, ◌++◌, refl, sym, ◌∙◌, ap, subst}
+use Rattle.std.proofs.Common.{◌≡◌, Bool, true, List, [], ◌∷◌, ◌++◌, refl, sym, ◌∙◌, ap, subst}
 use Rattle.std.specs.Prelude.{Contains}
 use Rattle.std.specs.List.{AllByRecursion}
 use Rattle.std.proofs.lemmas.List.{map-append}
 use Rattle.resolvo_pool_core.specs.declared.id.VersionSetId.{VersionSetId}
-use Rattle.resolvo_pool_core.specs.RuleKeeping.{Packages, is_many}
+use Rattle.resolvo_pool_core.specs.RuleKeeping.{is_many}
 use Rattle.resolvo_sat.proofs.Lists.{contains_only, contains_left, contains_right}
 use Rattle.resolvo_encoder.specs.declared.conditions.ConditionSet.{ConditionSet}
 use Rattle.resolvo_encoder.specs.declared.encoder.Encoder.{Encoder}

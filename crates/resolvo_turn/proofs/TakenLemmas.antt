@@ -1,5 +1,5 @@
 -- What a turn chooses, and what was chosen before it.
-use Rattle.std.proofs.Common.{◌≡◌, ℕ, suc, ◌-◌, ◌+◌, ◌<◌, ◌≤◌, inl, inr, Bool, true, false, nat_lt, cond, le-ltb, List, [], ◌∷◌, ◌++◌, reverse, take, drop, length, Option, None, Some, refl, sym, ◌∙◌, ap, subst, arith}
+use Rattle.std.proofs.Common.{◌≡◌, ℕ, suc, ◌-◌, ◌+◌, ◌<◌, ◌≤◌, inl, inr, Bool, true, false, cond, le-ltb, List, [], ◌∷◌, ◌++◌, reverse, take, drop, length, Option, None, Some, refl, sym, ◌∙◌, ap, subst, arith}
 use Rattle.std.specs.Prelude.{Contains}
 use Rattle.std.proofs.Math.Seq.{drop-append_seam}
 use Rattle.std.proofs.lemmas.Bool.{both_ways}
@@ -10,7 +10,7 @@ use Rattle.resolvo_store_core.specs.Clauses.{yes}
 use Rattle.resolvo_store_core.specs.Signed.{Signed, has}
 use Rattle.resolvo_store_core.specs.AtMostOne.{IsPrefixOf}
 use Rattle.resolvo_store_core.specs.declared.decision.Entry.{Entry}
-use Rattle.resolvo_sat.specs.Entries.{before, made_true, top_level, IsRooted, IsTrail}
+use Rattle.resolvo_sat.specs.Entries.{before, made_true, IsRooted, IsTrail}
 use Rattle.resolvo_sat.specs.State.{count_of, history, clauses_of}
 use Rattle.resolvo_sat.proofs.ExtendLemmas.{made_true-append}
 use Rattle.resolvo_sat.proofs.Literals.{has-append, has_right}
@@ -25,7 +25,7 @@ use Rattle.resolvo_state.proofs.Origins.{count_is, means_solvable, represents_mo
 use Rattle.resolvo_encoder.specs.declared.encoder.Encoder.{Encoder}
 use Rattle.resolvo_encoder.specs.Base.{base_of, below, HasTurn, IsTaken, KeepsTurn}
 use Rattle.resolvo_encoder.specs.Steps.{AddsParent, IsBuilt}
-use Rattle.resolvo_encoder.proofs.Bases.{below_all, below_choice, below_ends}
+use Rattle.resolvo_encoder.proofs.Bases.{below_choice, below_ends}
 use Rattle.resolvo_turn.specs.Encoder.{AddsParents}
 use Rattle.resolvo_turn.specs.Turn.{AddsChosen, AreTakenParents, in_turn}
 use Rattle.resolvo_turn.proofs.AddLemmas.{parents_coding}
