@@ -76,7 +76,8 @@ impl Conflict {
         message_of_graph(alloc, &graph, solver)
     }
 
-    /// The same, if its text has fewer bytes than a bound. They are counted before any line is kept.
+    /// The same, if its text has fewer bytes than a bound. They are counted before any line is
+    /// kept.
     pub fn display_below<'a, D: DependencyProvider>(
         &self,
         alloc: Global,
@@ -202,8 +203,7 @@ fn conflict_left<A: PackageSource>(
     }
 }
 
-/// Searches as `solve_with` does. Of a conflict it gives its clauses and the record of the conflict,
-/// too.
+/// Searches as `solve_with` does. Gives a conflict's clauses and its record, too.
 pub(crate) fn solve_to_conflict<A: PackageSource, C: ScoreMap<A::NameId> + Drop>(
     alloc: Global,
     answers: &mut A,

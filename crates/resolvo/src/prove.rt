@@ -1,5 +1,5 @@
-//! A search with its proof. `Solver` keeps the result of `solve_with`; a program that needs no solver
-//! may call it itself.
+//! A search with its proof. `Solver` keeps the result of `solve_with`; a program that needs no
+//! solver may call it itself.
 ghost use Rattle.std.specs.Prelude.{◌≡◌, Bool, true, length, IfOk, IfErr};
 ghost use Rattle.resolvo_pool.specs.Cached.{IsCancelledBy};
 ghost use Rattle.resolvo_pool_core.specs.RuleKeeping.{Packages, Rules, IsLawful};

@@ -143,7 +143,8 @@ impl<N: Copy + Exact + Hash + Debug + Drop, S: Copy + Exact + Hash + Debug> Enco
     /// literals of "no match is chosen". Where the package is marked `many`, encodes the matches.
     fn conjunct_literals(&mut self, alloc: Global, set: &ConditionSet<N, S>) -> R<Vec<Literal>>
         requires { IsBuilt self.old }
-        ensures at_least_one { IfOk result (λ v. CaseLiterals S.eq (set.now ∷ []) v.items self.old self.new) }
+        ensures at_least_one { IfOk result
+            (λ v. CaseLiterals S.eq (set.now ∷ []) v.items self.old self.new) }
         ensures ids { IsErrOf result Ids → LacksNumber self.new.coding }
     {
         if set.many {
@@ -166,7 +167,8 @@ impl<N: Copy + Exact + Hash + Debug + Drop, S: Copy + Exact + Hash + Debug> Enco
         sets: &[ConditionSet<N, S>],
     ) -> R<Vec<Literal>>
         requires { IsBuilt self.old }
-        ensures at_least_one { IfOk result (λ v. CaseLiterals S.eq sets.now v.items self.old self.new) }
+        ensures at_least_one { IfOk result
+            (λ v. CaseLiterals S.eq sets.now v.items self.old self.new) }
         ensures ids { IsErrOf result Ids → LacksNumber self.new.coding }
     {
         if sets.len() == 1 {
@@ -182,7 +184,8 @@ impl<N: Copy + Exact + Hash + Debug + Drop, S: Copy + Exact + Hash + Debug> Enco
     /// The literals of all version sets of a case, in a list of their own.
     fn join_literals(&mut self, alloc: Global, sets: &[ConditionSet<N, S>]) -> R<Vec<Literal>>
         requires { IsBuilt self.old }
-        ensures at_least_one { IfOk result (λ v. CaseLiterals S.eq sets.now v.items self.old self.new) }
+        ensures at_least_one { IfOk result
+            (λ v. CaseLiterals S.eq sets.now v.items self.old self.new) }
         ensures ids { IsErrOf result Ids → LacksNumber self.new.coding }
     {
         let mut literals = Vec::new(alloc);

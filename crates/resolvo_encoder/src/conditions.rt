@@ -149,7 +149,8 @@ impl<N: Copy + Exact + Hash + Debug + Drop, S: Copy + Exact + Hash + Debug> Enco
         // After an answer.
         ensures encoded { OnOk result
             (RequiresSets S.eq parent need sets.now offered.now self.old self.new) }
-        ensures candidates { OnOk result (AddsCandidates need.requirement offered.now self.old self.new) }
+        ensures candidates { OnOk result
+            (AddsCandidates need.requirement offered.now self.old self.new) }
         ensures kept { OnOk result (Extends self.old self.new) }
         ensures built { OnOk result (IsBuilt self.new) }
         // After a refusal.

@@ -202,7 +202,8 @@ impl<N: Copy + Exact + Hash + Debug + Drop, S: Copy + Exact + Hash + Debug> Enco
         // After an answer.
         ensures encoded { OnOk result
             (RequiresOffered S.eq parent need offered.now self.old self.new) }
-        ensures candidates { OnOk result (AddsCandidates need.requirement offered.now self.old self.new) }
+        ensures candidates { OnOk result
+            (AddsCandidates need.requirement offered.now self.old self.new) }
         ensures kept { OnOk result (Extends self.old self.new) }
         ensures built { OnOk result (IsBuilt self.new) }
         // After a refusal.
@@ -388,7 +389,8 @@ impl<N: Copy + Exact + Hash + Debug + Drop, S: Copy + Exact + Hash + Debug> Enco
         requires { IsBuilt self.old }
         // After an answer.
         ensures encoded { OnOk result (SharesGate S.eq requirement self.old self.new) }
-        ensures present { IfOk result (λ gate. Represents self.new.coding.atoms.keys gate (Gate requirement)) }
+        ensures present { IfOk result
+            (λ gate. Represents self.new.coding.atoms.keys gate (Gate requirement)) }
         ensures recorded { IfOk result (λ gate. slot_of self.new.gates requirement ≡ Some gate) }
         ensures lists { OnOk result (self.new.lists ≡ self.old.lists) }
         ensures kept { OnOk result (Extends self.old self.new) }
@@ -498,7 +500,8 @@ fn put_literals<N: Copy + Drop>(
 
 /// Appends the literals of candidates.
 pub(crate) fn push_candidates<N>(candidates: &[Candidate<N>], literals: &mut Vec<Literal>) -> R<()>
-    ensures pushed { OnOk result (literals.new.items ≡ literals.old.items ++ candidate_literals candidates.now) }
+    ensures pushed { OnOk result
+        (literals.new.items ≡ literals.old.items ++ candidate_literals candidates.now) }
     ensures refusal { IsOkUnless result Memory }
 {
     for candidate in candidates {

@@ -78,7 +78,8 @@ fn register_one<N: Copy + Exact + Hash + Debug, S: Copy + Exact + Hash + Debug>(
 ) -> R<Candidate<N>>
     requires coding { IsCoding coding.old }
     requires tied { AreTied registry.old coding.old }
-    ensures registered { IfOk result (λ c. RegistersOne one c registry.old coding.old registry.new coding.new) }
+    ensures registered { IfOk result
+        (λ c. RegistersOne one c registry.old coding.old registry.new coding.new) }
     ensures ids { IsErrOf result Ids → LacksNumber coding.new }
 {
     let variable = registry.register(coding, one.name, one.solvable)?;

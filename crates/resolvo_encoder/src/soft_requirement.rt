@@ -64,7 +64,8 @@ impl<N: Copy + Exact + Hash + Debug + Drop, S: Copy + Exact + Hash + Debug> Enco
     /// false, returns the final conflict.
     fn choose_or_refute(&mut self, alloc: Global, variable: VariableId) -> R<Option<FinalConflict>>
         requires built { IsBuilt self.old }
-        requires above { top_level (history self.old.coding.search) < self.old.coding.search.base_level }
+        requires above { top_level (history self.old.coding.search)
+            < self.old.coding.search.base_level }
         requires turn { HasTurn (Some variable) self.old }
         // After an answer.
         ensures stays { OnOk result (StaysEncoding S.eq self.old self.new) }
@@ -85,9 +86,11 @@ impl<N: Copy + Exact + Hash + Debug + Drop, S: Copy + Exact + Hash + Debug> Enco
     /// Decides an undecided soft requirement at the base level of its turn.
     pub fn choose_soft(&mut self, variable: VariableId) -> R<()>
         requires built { IsBuilt self.old }
-        requires above { top_level (history self.old.coding.search) < self.old.coding.search.base_level }
+        requires above { top_level (history self.old.coding.search)
+            < self.old.coding.search.base_level }
         requires turn { HasTurn (Some variable) self.old }
-        requires undecided { IsUndecided (made_true (history self.old.coding.search)) (yes variable) }
+        requires undecided { IsUndecided (made_true (history self.old.coding.search))
+            (yes variable) }
         // After an answer.
         ensures stays { OnOk result (StaysEncoding S.eq self.old self.new) }
         ensures goes_on { OnOk result (GoesOn self.old self.new) }
@@ -122,7 +125,8 @@ impl<N: Copy + Exact + Hash + Debug + Drop, S: Copy + Exact + Hash + Debug> Enco
     pub fn learn_refusal(&mut self, refusal: FinalConflict) -> R<ClauseId>
         requires built { IsBuilt self.old }
         requires some { 0 < length refusal.literals.items }
-        requires forbid { IsDenial self.old.coding.search refusal.literals.items refusal.causes.items }
+        requires forbid { IsDenial self.old.coding.search
+            refusal.literals.items refusal.causes.items }
         // After an answer.
         ensures stays { OnOk result (StaysEncoding S.eq self.old self.new) }
         ensures goes_on { OnOk result (GoesOn self.old self.new) }
@@ -140,8 +144,8 @@ impl<N: Copy + Exact + Hash + Debug + Drop, S: Copy + Exact + Hash + Debug> Enco
         Ok(clause)
     }
 
-    /// Registers a soft requirement, whose package is marked `many` or isn't, records it as the last
-    /// one, and returns its variable.
+    /// Registers a soft requirement, with the mark of its package, and records it as the last one.
+    /// Returns its variable.
     pub fn record_soft(&mut self, soft: Offered<N, S>, many: bool) -> R<VariableId>
         requires { IsBuilt self.old }
         ensures recorded { IfOk result (λ v. RecordsSoft S.eq soft many v self.old self.new) }

@@ -64,7 +64,8 @@ impl<N: Copy + Exact + Hash + Debug + Drop, S: Copy + Exact + Hash + Debug> Enco
         requires { IsBuilt self.old }
         // After an answer.
         ensures syncs { OnOk result (Syncs self.old self.new) }
-        ensures synced { OnOk result (IsSynced self.new.queue self.new.coding.search.tracker.trail) }
+        ensures synced { OnOk result
+            (IsSynced self.new.queue self.new.coding.search.tracker.trail) }
         ensures hot { OnOk result (IsHotBound (C.score_of scores.now.map) self.new.queue) }
         ensures built { OnOk result (IsBuilt self.new) }
         // After a refusal.

@@ -50,7 +50,8 @@ fn exclude<N: Copy + Exact + Hash + Debug + Drop, S: Copy + Exact + Hash + Debug
     requires { IsBuilt encoding.old }
     // After an answer.
     ensures excludes { OnOk result
-        (Excludes S.eq solvable reason excluded.old.keys excluded.new.keys encoding.old encoding.new) }
+        (Excludes S.eq solvable reason excluded.old.keys excluded.new.keys
+        encoding.old encoding.new) }
     ensures kept { OnOk result (AddsNeeds encoding.old encoding.new) }
     ensures built { OnOk result (IsBuilt encoding.new) }
     // After a refusal.

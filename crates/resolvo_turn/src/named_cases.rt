@@ -22,7 +22,8 @@ struct NamedCase {
 #[derive(Drop)]
 pub struct NamedCases<N: Copy + Exact + Hash> {
     names: OrderedSet<N>,
-    /// One more than the index of the last link of each package, or 0. As many at least as packages.
+    /// One more than the index of the last link of each package, or 0. At least one for each
+    /// package.
     last: Vec<u32>,
     links: Vec<NamedCase>,
 }

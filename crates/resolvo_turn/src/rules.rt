@@ -1,5 +1,6 @@
-//! Requirements and constraints of a parent become clauses. The locks and exclusions of the packages
-//! that they name come first. A package is asked for only when a parent that names it is encoded.
+//! Requirements and constraints of a parent become clauses. The locks and exclusions of the
+//! packages that they name come first. A package is asked for only when a parent that names it is
+//! encoded.
 ghost use Rattle.std.specs.Prelude.{◌≡◌, IfErr, OnOk, IsErrOf, IsOkUnless};
 ghost use Rattle.resolvo_pool.specs.Cached.{IsCancelledBy};
 ghost use Rattle.resolvo_pool.specs.declared.cache.CacheFault.TheVariants.{Ids};

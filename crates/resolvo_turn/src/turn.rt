@@ -211,8 +211,8 @@ fn undo_falsified<N: Copy + Exact + Hash + Debug, S: Copy + Exact + Hash + Debug
 }
 
 /// Begins the search after an encoding: assumes the turn's soft requirement, and propagates. Where
-/// a clause is falsified above the turn's base level, the turn begins again, and the scan goes back.
-/// Answers the conflict, if the soft requirement is false.
+/// a clause is falsified above the turn's base level, the turn begins again, and the scan goes
+/// back. Answers the conflict, if the soft requirement is false.
 fn begin_search<N: Copy + Exact + Hash + Debug, S: Copy + Exact + Hash + Debug>(
     alloc: Global,
     encoding: &mut Encoder<N, S>,
