@@ -11,7 +11,7 @@ use Rattle.resolvo_store_core.specs.Clauses.{yes, no, root as root_variable}
 use Rattle.resolvo_store_core.specs.declared.decision.Entry.{Entry}
 use Rattle.resolvo_sat.specs.declared.state.VariableKind.{VariableKind}
 use Rattle.resolvo_sat.specs.declared.state.VariableKind.TheVariants as Kinds
-use Rattle.resolvo_sat.specs.Analysis.{IsDenial, IsAssumption, IsReason, IsRefusal}
+use Rattle.resolvo_sat.specs.Analysis.{IsAssumption, IsReason, IsRefusal}
 use Rattle.resolvo_sat.specs.Entries.{literal_of, made_true, top_level, IsChoice, IsOnTrail, IsTrail}
 use Rattle.resolvo_sat.specs.State.{count_of, history, clauses_of}
 use Rattle.resolvo_sat.specs.Steps.{choice_entry}
@@ -29,7 +29,7 @@ use Rattle.resolvo_state.proofs.Positions.{get_mapped}
 use Rattle.resolvo_state.proofs.Origins.{means_solvable, means_atom}
 use Rattle.resolvo_encoder.specs.declared.encoder.Encoder.{Encoder}
 use Rattle.resolvo_encoder.specs.Base.{base_of, IsOpen, IsTaken, DeniesEarlier, IsBlame, IsBlamed}
-use Rattle.resolvo_encoder.specs.Encoded.{IsEncoding, Registered, IsChosenFor, HasOrder}
+use Rattle.resolvo_encoder.specs.Encoded.{IsEncoding, Registered}
 use Rattle.resolvo_encoder.specs.Encoded as E
 use Rattle.resolvo_encoder.proofs.Bases.{above_choice, on_trail_below}
 use Rattle.resolvo_encoder.proofs.Digits.{digit_found, digits_agree}

@@ -45,7 +45,6 @@ use Rattle.resolvo_sat.proofs.Lists.{contains_none, contains_one, contains_parts
 use Rattle.resolvo_sat.proofs.Clauses.{length-lists}
 use Rattle.resolvo_sat.proofs.StepLemmas.{lists-append, clause_at_end}
 use Rattle.resolvo_encoder.specs.Steps.{HasNeedLiterals, EncodesNeed, SameButCoding, IsBuilt, IsBegunEncoding, AddsParent}
-use Rattle.resolvo_encoder.specs.Conditions.{Defers, Fires}
 use Rattle.resolvo_encoder.specs.TurnLevels.{AreValues}
 use Rattle.resolvo_encoder.specs.declared.encoder.Encoder.{Encoder}
 use Rattle.resolvo_encoder.proofs.DecideLemmas.{picked, offers, for_listed, open_undecided}

@@ -27,7 +27,7 @@ use Rattle.resolvo_store_core.specs.declared.decision.Entry.{Entry}
 use Rattle.resolvo_store_core.specs.declared.decision_map.Assignment.{Assignment}
 use Rattle.resolvo_sat.specs.Entries.{made_true, IsTrail}
 use Rattle.resolvo_sat.proofs.Values.{true_is}
-use Rattle.resolvo_sat.specs.State.{history, count_of, clauses_of}
+use Rattle.resolvo_sat.specs.State.{history}
 use Rattle.resolvo_sat.specs.RuleClauses.{IsExact, Atom, Rule, plus, minus, case_literals}
 use Rattle.resolvo_sat.specs.SearchEnd.{AreFalse, IsTrueParent, HasClause, IsAsked, IsCalledFor}
 use Rattle.resolvo_sat.specs.First.{IsFirstPick}

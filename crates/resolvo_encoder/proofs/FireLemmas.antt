@@ -1,5 +1,5 @@
 -- Cases are deferred, and those that hold are encoded.
-use Rattle.std.proofs.Common.{◌≡◌, ℕ, suc, ◌+◌, ◌<◌, ◌≤◌, ◌⊎◌, inl, inr, Bool, true, false, List, [], ◌∷◌, ◌++◌, length, get_or, Option, Some, None, Vec, Global, is_some, refl, sym, ◌∙◌, ap, subst, arith, length-append}
+use Rattle.std.proofs.Common.{◌≡◌, ℕ, suc, ◌+◌, ◌<◌, ◌≤◌, ◌⊎◌, inl, inr, Bool, true, false, List, [], ◌∷◌, ◌++◌, length, get_or, Option, Some, Vec, Global, is_some, refl, sym, ◌∙◌, ap, subst, arith, length-append}
 use Rattle.resolvo_encoder.specs.declared.encoder.EncodedOnce.{EncodedOnce}
 use Rattle.std.specs.Prelude.{Contains, slice_get}
 use Rattle.std.proofs.lemmas.Bool.{cases_Bool}
@@ -30,11 +30,8 @@ use Rattle.resolvo_sat.specs.Numbered.{Spells}
 use Rattle.resolvo_sat.specs.SearchEnd.{IsNeedEncoded}
 use Rattle.resolvo_sat.proofs.Lists.{contains_none, contains_one, contains_parts, all_contained, any_contained, contains_map}
 use Rattle.resolvo_sat.proofs.Members.{in_contained, contained_in}
-use Rattle.resolvo_state.specs.declared.atom.ProofAtom.TheVariants.{Solvable}
 use Rattle.resolvo_state.specs.Kinds.{Kind}
 use Rattle.resolvo_state.specs.Atoms.{origin}
-use Rattle.resolvo_state.specs.declared.solver_state.SolverState.{SolverState}
-use Rattle.resolvo_state.specs.SolverState.{IsCoding}
 use Rattle.resolvo_state.proofs.Growth.{grows_same}
 use Rattle.resolvo_state.proofs.Origins.{count_is, means_solvable}
 use Rattle.resolvo_state.proofs.Positions.{prefix_same, prefix_long, get_last, get_old, get_push}

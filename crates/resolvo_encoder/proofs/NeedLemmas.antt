@@ -1,5 +1,5 @@
 -- The clause of a requirement, of a gate, or from a solvable to a gate keeps the invariant.
-use Rattle.std.proofs.Common.{◌≡◌, ℕ, zero, suc, ◌+◌, ◌<◌, ◌≤◌, ◌⊎◌, inl, inr, Bool, true, false, not, ◌&&◌, List, [], ◌∷◌, ◌++◌, length, reverse, is_some, Option, Some, None, Vec, Global, refl, sym, ◌∙◌, ap, subst, arith, length-append}
+use Rattle.std.proofs.Common.{◌≡◌, ℕ, zero, suc, ◌+◌, ◌<◌, ◌≤◌, ◌⊎◌, inl, inr, Bool, true, false, not, ◌&&◌, List, [], ◌∷◌, ◌++◌, length, reverse, is_some, Option, Some, None, refl, sym, ◌∙◌, ap, subst, arith, length-append}
 use Rattle.std.specs.Prelude.{Contains, slice_get}
 use Rattle.std.proofs.lemmas.Bool.{both_ways}
 use Rattle.resolvo_pool_core.specs.declared.id.ClauseId.{ClauseId}
@@ -30,7 +30,7 @@ use Rattle.resolvo_sat.specs.Entries.{IsOnTrail}
 use Rattle.resolvo_sat.specs.Begin.{IsRootClause, root_entry}
 use Rattle.resolvo_sat.proofs.Literals.{has-cons, has-append, has_here, has_later}
 use Rattle.resolvo_sat.proofs.Clauses.{literals_at}
-use Rattle.resolvo_sat.specs.RuleClauses.{IsExact, Atom, Rule, plus, minus, IsRule, literals_of, parent_literals, case_literals, candidate_literals, cases_under, cases_for, has_plain_need, has_condition, same_requirement}
+use Rattle.resolvo_sat.specs.RuleClauses.{IsExact, Atom, Rule, plus, minus, IsRule, literals_of, parent_literals, case_literals, candidate_literals, cases_under, has_plain_need, has_condition, same_requirement}
 use Rattle.resolvo_sat.specs.SearchEnd.{HasClause}
 use Rattle.resolvo_sat.specs.Numbered.{meaning, Means, Spells}
 use Rattle.resolvo_sat.proofs.Lists.{contains_none, contains_cases, contains_first, contains_later, contains_left, contains_right, contains_one, contains_only, contains_parts, contained_any}

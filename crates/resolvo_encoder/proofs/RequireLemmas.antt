@@ -41,7 +41,7 @@ use Rattle.resolvo_state.specs.ClauseKinds.{rule_of, kind_at, rule_at}
 use Rattle.resolvo_state.specs.SolverState.{IsCoding, Grows, SameTrail}
 use Rattle.resolvo_state.specs.Registered.{AreTied, IsTracked, IsQueued, IsMany, IsRegistered, IsDigitClause, digit_literals}
 use Rattle.resolvo_encoder.specs.Cases.{case_of, IsDeferred}
-use Rattle.resolvo_encoder.specs.Encoded.{IsCandidate, AreCandidates, HasOrder, IsQueuedFor, IsRequiresRule, IsGuarded, IsLimitEncoded, IsRecorded, IsMarkKnown, AreMarked, IsSetEncoded, IsCaseEncoded, IsParentEncoded, Registered, AreCased, IsEncoding, IsChosenFor}
+use Rattle.resolvo_encoder.specs.Encoded.{IsCandidate, IsQueuedFor, IsRequiresRule, IsGuarded, IsLimitEncoded, IsRecorded, IsMarkKnown, AreMarked, IsSetEncoded, IsCaseEncoded, IsParentEncoded, Registered, AreCased, IsEncoding, IsChosenFor}
 use Rattle.resolvo_encoder.specs.Encoded as E
 use Rattle.resolvo_encoder.specs.Steps.{RegistersAll, KeepsLists, SameButCoding, Extends}
 use Rattle.resolvo_encoder.specs.declared.encoder.Deferred.{Deferred}

@@ -1,4 +1,4 @@
-use Rattle.std.proofs.Common.{[], ◌∷◌, refl}
+use Rattle.std.proofs.Common.{refl}
 use Rattle.resolvo_sat.specs.RuleClauses.{IsExact}
 use Rattle.resolvo_state.specs.declared.atom.ProofAtom.TheVariants.{Solvable}
 use Rattle.resolvo_state.proofs.Growth.{represents_in_range}
