@@ -46,7 +46,8 @@ abbrev pub DeniesOne : {N S : Type 0} → SolverState N S → (S → Type 0) →
 DeniesOne {N} {S} c among l = (l ≡ no root_variable)
     ⊎ ((t : S) × (u : VariableId) × (l ≡ no u) × Represents c.atoms.keys u (Solvable t) × among t)
 
--- The clause of this number, which is not the root's, was learnt, and denies nothing but these solvables.
+-- The clause of this number, which is not the root's, was learnt, and denies nothing but these
+-- solvables.
 pub record IsReasonOf {N S : Type 0} (c : SolverState N S) (among : S → Type 0) (number : ℕ) : Type 0 where
   pub later : 0 < number
   pub held : SatClause
@@ -68,7 +69,8 @@ pub record KeepsTrail {N S : Type 0} (old new : Encoder N S) : Type 0 where
 -- A true or chosen soft requirement is recorded after the accepted ones. The turn of a chosen one
 -- begins after the earlier trail. The trail and the accepted ones are unchanged after a refusal.
 abbrev pub IsOutcome : {N S : Type 0} → (S → S → Bool) → S → Encoder N S → Encoder N S → SoftOutcome → Type 0
-IsOutcome same s old new AlreadyChosen = (new.recorded.softs.items ≡ old.recorded.softs.items ++ s ∷ []) × (history new.coding.search ≡ history old.coding.search) × IsTrue new s
+IsOutcome same s old new AlreadyChosen = (new.recorded.softs.items ≡ old.recorded.softs.items ++ s ∷ [])
+    × (history new.coding.search ≡ history old.coding.search) × IsTrue new s
 IsOutcome same s old new Chosen = (new.recorded.softs.items ≡ old.recorded.softs.items ++ s ∷ [])
     × (base_of new ≡ history old.coding.search)
     × ((v : VariableId) × Represents new.coding.atoms.keys v (Solvable s)

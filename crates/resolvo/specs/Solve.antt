@@ -70,8 +70,8 @@ IsDenial c (Chosen v turns) = ⊤
 IsDenial c (Unsat r) = IsRefusal c.search r.literals.items r.causes.items
     × DenyRoot r.literals.items
 
--- The encoding is built, whatever the packages are, and a conflict follows from its clauses: its proof
--- can be written.
+-- The encoding is built, whatever the packages are, and a conflict follows from its clauses: its
+-- proof can be written.
 pub record IsProvable {N S : Type 0} (e : Encoder N S) (f : SearchResult S) : Type 0 where
   pub built : IsBuilt e
   pub denial : IsDenial e.coding f
@@ -107,7 +107,8 @@ module _ {N S : Type 0} (same : S → S → Bool) (p : Packages N S) (root : Rul
   -- The result: the turns of the soft requirements, each with its reason. Or a clause that denies
   -- the root alone, and no solvables keep all rules.
   abbrev pub IsFound : Encoder N S → SearchResult S → Type 0
-  IsFound e (Chosen v turns) = AreSolvedByTurn same p root v.items (first_of v.items turns.items) softs turns.items × HaveClauses e.coding (Chosen v turns)
+  IsFound e (Chosen v turns) = AreSolvedByTurn same p root v.items (first_of v.items turns.items) softs turns.items
+      × HaveClauses e.coding (Chosen v turns)
   IsFound e (Unsat r) = IsUnsolvable same p root
       × IsRefusal e.coding.search r.literals.items r.causes.items
 

@@ -127,7 +127,8 @@ Leaves (Err (Cancelled value)) k = HasNothing k
 Leaves (Err Memory) k = HasNothing k
 Leaves (Err Ids) k = HasNothing k
 
--- The results for the steps that are wanted: of a choice where reasons alone are wanted, no conflict.
+-- The results for the steps that are wanted: of a choice where reasons alone are wanted, no
+-- conflict.
 abbrev pub LeavesBy : {N S C P : Type 0} → Result (Vec S) (UnsolvableOrCancelled C) → Steps → Kept P N S → Type 0
 LeavesBy {N} {S} {C} {P} (Ok v) All k = Leaves {C = C} (Ok v) k
 LeavesBy {N} {S} {C} {P} (Ok v) Reasons k = k.conflict ≡ None

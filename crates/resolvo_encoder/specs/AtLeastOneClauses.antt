@@ -24,14 +24,17 @@ use Rattle.resolvo_encoder.specs.declared.encoder.Encoder.{Encoder}
 module _ {N S : Type 0} where
   -- the registered solvables of the package, with it, but for those that wait, unless it is marked
   pub record AreThose (e : Encoder N S) (name : N) (list : List (Offered N S)) : Type 0 where
-    pub each : (s : S) → IsRegistered e.registry e.coding name s → Contains list (record { solvable = s; name = name }) ⊎ IsPending e name s
-    pub all : (o : Offered N S) → Contains list o → (o.name ≡ name) × IsRegistered e.registry e.coding name o.solvable
+    pub each : (s : S) → IsRegistered e.registry e.coding name s
+        → Contains list (record { solvable = s; name = name }) ⊎ IsPending e name s
+    pub all : (o : Offered N S) → Contains list o
+        → (o.name ≡ name) × IsRegistered e.registry e.coding name o.solvable
 
   -- The solvables that wait, and no others.
   pub record AreWaiting (e : Encoder N S) (list : List (Offered N S)) : Type 0 where
     pub tied : AreTied e.registry e.coding
     pub each : (n : N) (s : S) → IsWaiting e n s → Contains list (record { solvable = s; name = n })
-    pub all : (o : Offered N S) → Contains list o → IsRegistered e.registry e.coding o.name o.solvable
+    pub all : (o : Offered N S) → Contains list o
+        → IsRegistered e.registry e.coding o.name o.solvable
 
   module _ (same : S → S → Bool) where
     -- At-least-one clauses of these solvables were added, if they are candidates of their packages.
@@ -42,13 +45,16 @@ module _ {N S : Type 0} where
       pub registry : new.registry ≡ old.registry
       pub at_least_one : new.recorded.at_least_one ≡ old.recorded.at_least_one
       pub queued : new.recorded.queued ≡ old.recorded.queued
-      pub encoding : (p : Packages N S) (root : Rules) → IsLawful p → IsEncoding same p root old → ((o : Offered N S) → Contains list o → IsListed same p o)
-          → IsEncoding same p root new × ((o : Offered N S) → Contains list o → rules_of new (Rule.is_there o.name o.solvable))
+      pub encoding : (p : Packages N S) (root : Rules) → IsLawful p → IsEncoding same p root old
+          → ((o : Offered N S) → Contains list o → IsListed same p o)
+          → IsEncoding same p root new
+          × ((o : Offered N S) → Contains list o → rules_of new (Rule.is_there o.name o.solvable))
 
     -- At-least-one clauses were added for those whose package is recorded, and for no others.
     pub record Admits (offered : List (Offered N S)) (old new : Encoder N S) : Type 0 where
       pub added : List (Offered N S)
-      pub each : (o : Offered N S) → Contains offered o → Contains old.recorded.at_least_one.keys o.name → Contains added o
+      pub each : (o : Offered N S) → Contains offered o
+          → Contains old.recorded.at_least_one.keys o.name → Contains added o
       pub only : (o : Offered N S) → Contains added o → Contains offered o
       pub adds : AddsAtLeastOne added old new
 
@@ -64,7 +70,8 @@ module _ {N S : Type 0} where
       pub extends : Extends old new
       pub lists : new.lists ≡ old.lists
       pub registry : new.registry ≡ old.registry
-      pub keeps : (n : N) → Contains old.recorded.at_least_one.keys n → Contains new.recorded.at_least_one.keys n
+      pub keeps : (n : N) → Contains old.recorded.at_least_one.keys n
+          → Contains new.recorded.at_least_one.keys n
       pub at_least_one : Contains new.recorded.at_least_one.keys name
       pub queued : new.recorded.queued ≡ old.recorded.queued
       pub encoding : StaysEncoding same old new
@@ -76,20 +83,25 @@ module _ {N S : Type 0} where
       pub lists : new.lists ≡ old.lists
       pub registry : new.registry ≡ old.registry
       pub keeps : (n : N) → IsNamed old.recorded n → IsNamed new.recorded n
-      pub matches : (v : VersionSetId) → Contains old.recorded.matches.keys v → Contains new.recorded.matches.keys v
+      pub matches : (v : VersionSetId) → Contains old.recorded.matches.keys v
+          → Contains new.recorded.matches.keys v
       pub named : IsNamed new.recorded name
       pub encoding : StaysEncoding same old new
 
-    -- The version set is recorded for its matches. These are clauses where its package is marked `many`.
+    -- The version set is recorded for its matches. These are clauses where its package is marked
+    -- `many`.
     pub record HoldsMatches (v : VersionSetId) (matching : List (Offered N S)) (old new : Encoder N S) : Type 0 where
       pub built : IsBuilt new
       pub extends : Extends old new
       pub lists : new.lists ≡ old.lists
       pub registry : new.registry ≡ old.registry
       pub others : new.recorded ≡ record old.recorded { matches = new.recorded.matches }
-      pub keeps : (w : VersionSetId) → Contains old.recorded.matches.keys w → Contains new.recorded.matches.keys w
+      pub keeps : (w : VersionSetId) → Contains old.recorded.matches.keys w
+          → Contains new.recorded.matches.keys w
       pub held : Contains new.recorded.matches.keys v
-      pub encoding : (p : Packages N S) (root : Rules) → IsLawful p → IsEncoding same p root old → AreOffered same p (Single v) matching → is_many p (p.set_package v) ≡ true → IsOfCase same p root v → IsEncoding same p root new
+      pub encoding : (p : Packages N S) (root : Rules) → IsLawful p → IsEncoding same p root old
+          → AreOffered same p (Single v) matching → is_many p (p.set_package v) ≡ true
+          → IsOfCase same p root v → IsEncoding same p root new
 
     -- The version sets of the case are encoded, and these are its literals.
     pub record AreCaseLiterals (p : Packages N S) (e : Encoder N S) (case : List VersionSetId) (literals : List Signed) : Type 0 where
@@ -102,13 +114,18 @@ module _ {N S : Type 0} where
       pub extends : Extends old new
       pub lists : new.lists ≡ old.lists
       pub keeps : (n : N) → IsNamed old.recorded n → IsNamed new.recorded n
-      pub tracked : (m : N) (u : VariableId) → IsTracked old.registry m u → IsTracked new.registry m u
-      pub matches : (v : VersionSetId) → Contains old.recorded.matches.keys v → Contains new.recorded.matches.keys v
+      pub tracked : (m : N) (u : VariableId) → IsTracked old.registry m u
+          → IsTracked new.registry m u
+      pub matches : (v : VersionSetId) → Contains old.recorded.matches.keys v
+          → Contains new.recorded.matches.keys v
       pub in_range : AreInRange (count_of new.coding.search) literals
-      pub encoding : (p : Packages N S) (root : Rules) → IsLawful p → IsEncoding same p root old → AreSets same p sets → ((v : VersionSetId) → Contains (sets_case sets) v → IsOfCase same p root v) → IsEncoding same p root new × AreCaseLiterals p new (sets_case sets) literals
+      pub encoding : (p : Packages N S) (root : Rules) → IsLawful p → IsEncoding same p root old
+          → AreSets same p sets
+          → ((v : VersionSetId) → Contains (sets_case sets) v → IsOfCase same p root v)
+          → IsEncoding same p root new × AreCaseLiterals p new (sets_case sets) literals
 
-    -- These solvables have their digits, unless their packages are marked, and at-least-one clauses if
-    -- their packages are recorded.
+    -- These solvables have their digits, unless their packages are marked, and at-least-one clauses
+    -- if their packages are recorded.
     pub record PlacesAll (list : List (Offered N S)) (old new : Encoder N S) : Type 0 where
       pub built : IsBuilt new
       pub extends : Extends old new
@@ -118,10 +135,16 @@ module _ {N S : Type 0} where
       pub at_least_one : new.recorded.at_least_one ≡ old.recorded.at_least_one
       pub queued : new.recorded.queued ≡ old.recorded.queued
       pub many : new.registry.many ≡ old.registry.many
-      pub placed : (o : Offered N S) → Contains list o → IsMany old.registry o.name ⊎ ((v : VariableId) × Represents new.coding.atoms.keys v (Solvable o.solvable) × IsInTracker new.registry o.name v)
-      pub keeps : (m : N) (u : VariableId) → IsInTracker old.registry m u → IsInTracker new.registry m u
+      pub placed : (o : Offered N S) → Contains list o
+          → IsMany old.registry o.name
+          ⊎ ((v : VariableId) × Represents new.coding.atoms.keys v (Solvable o.solvable)
+          × IsInTracker new.registry o.name v)
+      pub keeps : (m : N) (u : VariableId) → IsInTracker old.registry m u
+          → IsInTracker new.registry m u
       pub encoding : (p : Packages N S) (root : Rules) → IsLawful p → IsEncoding same p root old
-          → IsEncoding same p root new × ((o : Offered N S) → Contains list o → Contains old.recorded.at_least_one.keys o.name → rules_of new (Rule.is_there o.name o.solvable))
+          → IsEncoding same p root new
+          × ((o : Offered N S) → Contains list o → Contains old.recorded.at_least_one.keys o.name
+          → rules_of new (Rule.is_there o.name o.solvable))
 
     -- No solvable waits: those that did have their digits, and their at-least-one clauses if their
     -- packages are recorded.
@@ -142,7 +165,8 @@ module _ {N S : Type 0} where
       pub lists : new.lists ≡ old.lists
       pub registry : new.registry ≡ old.registry
       pub queued : new.recorded.queued ≡ old.recorded.queued
-      pub keeps : (n : N) → Contains old.recorded.at_least_one.keys n → Contains new.recorded.at_least_one.keys n
+      pub keeps : (n : N) → Contains old.recorded.at_least_one.keys n
+          → Contains new.recorded.at_least_one.keys n
       pub covered : (n : N) → Contains names n → Contains new.recorded.at_least_one.keys n
       pub encoding : StaysEncoding same old new
 

@@ -28,7 +28,8 @@ base_of e = below e.coding.search.base_level (history e.coding.search)
 
 -- the soft requirement's decision is the first entry of its turn
 abbrev pub IsFirst : {N S : Type 0} → Encoder N S → VariableId → Type 0
-IsFirst e v = (c : ClauseId) × EndsWith (choice_entry v c (base_of e) ∷ base_of e) (history e.coding.search)
+IsFirst e v = (c : ClauseId)
+    × EndsWith (choice_entry v c (base_of e) ∷ base_of e) (history e.coding.search)
 
 -- The turn is the soft requirement's, which wasn't true before. Where it is true, its decision is
 -- the turn's first entry.
@@ -59,15 +60,18 @@ KeepsFirst old new = KeepsUpTo old.coding.search.base_level old.coding.search ne
 
 -- the solvable was true before the turn
 abbrev pub IsTaken : {N S : Type 0} → Encoder N S → S → Type 0
-IsTaken e s = (u : VariableId) × Represents e.coding.atoms.keys u (Solvable s) × (has (made_true (base_of e)) (yes u) ≡ true)
+IsTaken e s = (u : VariableId) × Represents e.coding.atoms.keys u (Solvable s)
+    × (has (made_true (base_of e)) (yes u) ≡ true)
 
 -- the literal denies such a solvable
 abbrev pub DeniesEarlier : {N S : Type 0} → Encoder N S → Signed → Type 0
-DeniesEarlier {N} {S} e l = (s : S) × (u : VariableId) × (l ≡ no u) × Represents e.coding.atoms.keys u (Solvable s) × (has (made_true (base_of e)) (yes u) ≡ true)
+DeniesEarlier {N} {S} e l = (s : S) × (u : VariableId) × (l ≡ no u)
+    × Represents e.coding.atoms.keys u (Solvable s) × (has (made_true (base_of e)) (yes u) ≡ true)
 
 -- each literal denies the root, the soft requirement, or a solvable that was true before its turn
 abbrev pub IsBlame : {N S : Type 0} → Encoder N S → VariableId → List Signed → Type 0
-IsBlame e v literals = (l : Signed) → has literals l ≡ true → (l ≡ no root_variable) ⊎ ((l ≡ no v) ⊎ DeniesEarlier e l)
+IsBlame e v literals = (l : Signed) → has literals l ≡ true
+    → (l ≡ no root_variable) ⊎ ((l ≡ no v) ⊎ DeniesEarlier e l)
 
 -- The clause follows from its causes, has only their literals, and explains why the soft
 -- requirement can't be chosen.
@@ -80,4 +84,5 @@ pub record IsBlamed {N S : Type 0} (e : Encoder N S) (v : VariableId) (literals 
 -- the soft requirement is chosen; or it is false by the trail before its turn, for this reason
 abbrev pub IsTried : {N S : Type 0} → Encoder N S → VariableId → Option FinalConflict → Type 0
 IsTried e v None = has (made_true (history e.coding.search)) (yes v) ≡ true
-IsTried e v (Some r) = IsReason e.coding.search (no v) r.literals.items r.causes.items × (top_level (history e.coding.search) < e.coding.search.base_level)
+IsTried e v (Some r) = IsReason e.coding.search (no v) r.literals.items r.causes.items
+    × (top_level (history e.coding.search) < e.coding.search.base_level)

@@ -23,7 +23,9 @@ sets_case sets = map (λ c. c.version_set) sets
 
 -- this case of this parent's requirement is deferred
 abbrev pub IsDeferred : {N S : Type 0} → Encoder N S → Option S → ConditionalRequirement → List VersionSetId → Type 0
-IsDeferred {N} {S} e parent need case = (i : ℕ) × (d : Deferred S) × (slice_get e.deferred.items i ≡ Some d) × (d.parent ≡ parent) × (d.need ≡ need) × (case_of d.conjuncts.items ≡ case)
+IsDeferred {N} {S} e parent need case = (i : ℕ) × (d : Deferred S)
+    × (slice_get e.deferred.items i ≡ Some d) × (d.parent ≡ parent) × (d.need ≡ need)
+    × (case_of d.conjuncts.items ≡ case)
 
 module _ {N S : Type 0} (same : S → S → Bool) (p : Packages N S) where
   -- the candidates are those that match the version set

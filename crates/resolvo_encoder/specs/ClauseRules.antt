@@ -48,7 +48,9 @@ pub record EncodesRules {N S : Type 0} (same : S → S → Bool) (rules : List (
   pub lists : new.lists ≡ old.lists
   pub registry : new.registry ≡ old.registry
   pub recorded : new.recorded ≡ old.recorded
-  pub encoding : (p : Packages N S) (root : Rules) → IsLawful p → IsEncoding same p root old → ((r : Rule N S) → Contains rules r → IsRule same p root r) → IsEncoding same p root new × ((r : Rule N S) → Contains rules r → rules_of new r)
+  pub encoding : (p : Packages N S) (root : Rules) → IsLawful p → IsEncoding same p root old
+      → ((r : Rule N S) → Contains rules r → IsRule same p root r)
+      → IsEncoding same p root new × ((r : Rule N S) → Contains rules r → rules_of new r)
 
 -- the reason for which a solvable is forbidden, as a rule gives it
 abbrev pub reason_of : {S : Type 0} → ForbiddenBy S → ForbidReason S

@@ -31,7 +31,8 @@ module _ {N S : Type 0} where
   pub record Fires (index : ℕ) (old new : Encoder N S) : Type 0 where
     pub fired : Contains new.fired.keys index
     pub prefix : IsPrefixOf old.fired.keys new.fired.keys
-    pub fresh : (Contains old.fired.keys index → ⊥) → length new.fired.keys ≡ suc (length old.fired.keys)
+    pub fresh : (Contains old.fired.keys index → ⊥)
+        → length new.fired.keys ≡ suc (length old.fired.keys)
     pub small : length new.fired.keys < 18446744073709551616
     pub rest : new ≡ record old { fired = new.fired }
 
@@ -41,11 +42,13 @@ module _ {N S : Type 0} where
 
   -- the parent is a solvable outside one of these version sets, whose package isn't marked `many`
   abbrev pub IsKeptOut : List (ConditionSet N S) → Option S → Type 0
-  IsKeptOut sets parent = (s : S) × (c : ConditionSet N S) × (parent ≡ Some s) × Contains sets c × (c.many ≡ false) × Contains (offered_solvables c.outside.items) s
+  IsKeptOut sets parent = (s : S) × (c : ConditionSet N S) × (parent ≡ Some s) × Contains sets c
+      × (c.many ≡ false) × Contains (offered_solvables c.outside.items) s
 
   -- the trail makes the solvable's variable true
   abbrev pub IsTrueNow : Encoder N S → S → Type 0
-  IsTrueNow e s = (v : VariableId) × Represents e.coding.atoms.keys v (Solvable s) × (has (made_true (history e.coding.search)) (yes v) ≡ true)
+  IsTrueNow e s = (v : VariableId) × Represents e.coding.atoms.keys v (Solvable s)
+      × (has (made_true (history e.coding.search)) (yes v) ≡ true)
 
   -- one of these solvables is chosen
   abbrev pub IsOneChosen : Encoder N S → List S → Type 0
@@ -55,14 +58,18 @@ module _ {N S : Type 0} where
   pub record IsMetNow (e : Encoder N S) (index : ℕ) : Type 0 where
     pub deferred : Deferred S
     pub at : slice_get e.deferred.items index ≡ Some deferred
-    pub chosen : (c : DeferredConjunct S) → Contains deferred.conjuncts.items c → IsOneChosen e (candidates_of c)
+    pub chosen : (c : DeferredConjunct S) → Contains deferred.conjuncts.items c
+        → IsOneChosen e (candidates_of c)
 
   module _ (same : S → S → Bool) (e : Encoder N S) where
     -- the case at the place is encoded, or it doesn't hold in the chosen solvables
     abbrev pub IsSpent : ℕ → Type 0
     IsSpent index = Contains e.fired.keys index
-        ⊎ ((p : Packages N S) (root : Rules) → IsLawful p → IsEncoding same p root e → (d : Deferred S) → slice_get e.deferred.items index ≡ Some d
-        → (members : List S) → AreChosen e.coding.atoms.keys (made_true (history e.coding.search)) members → case_holds same p members (case_of d.conjuncts.items) ≡ false)
+        ⊎ ((p : Packages N S) (root : Rules) → IsLawful p → IsEncoding same p root e
+        → (d : Deferred S) → slice_get e.deferred.items index ≡ Some d
+        → (members : List S)
+        → AreChosen e.coding.atoms.keys (made_true (history e.coding.search)) members
+        → case_holds same p members (case_of d.conjuncts.items) ≡ false)
 
     -- no deferred case holds in the chosen solvables
     abbrev pub AreSpent : Type 0

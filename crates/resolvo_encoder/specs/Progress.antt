@@ -40,11 +40,13 @@ pub record GoesOn {N S : Type 0} (old new : Encoder N S) : Type 0 where
   pub variables : new.coding.search.variables ≡ old.coding.search.variables
   pub grows : Grows old.coding new.coding
   pub earlier : KeepsUpTo (old.coding.search.base_level - 1) old.coding.search new.coding.search
-  pub learnt : (n : ℕ) → length old.coding.search.clauses ≤ n → n < length new.coding.search.clauses → kind_at new.coding.kinds.items n ≡ Some Learnt
+  pub learnt : (n : ℕ) → length old.coding.search.clauses ≤ n → n < length new.coding.search.clauses
+      → kind_at new.coding.kinds.items n ≡ Some Learnt
 
 -- each clause has a true literal, or two that are not false
 abbrev pub AreQuiet : {N S : Type 0} → Encoder N S → Type 0
-AreQuiet e = (n : ℕ) → n < length e.coding.search.clauses → IsQuiet (made_true (history e.coding.search)) (clause_at (clauses_of e.coding.search) n)
+AreQuiet e = (n : ℕ) → n < length e.coding.search.clauses
+    → IsQuiet (made_true (history e.coding.search)) (clause_at (clauses_of e.coding.search) n)
 
 -- nothing is left to propagate or decide
 pub record IsDone {N S : Type 0} (e : Encoder N S) : Type 0 where
@@ -62,7 +64,8 @@ IsHeavier old new = weight_left new.coding.search < weight_left old.coding.searc
 abbrev pub IsStep : {N S : Type 0} → Encoder N S → Encoder N S → Step → Type 0
 IsStep old new Step.Done = IsDone new
 IsStep old new Step.Chosen = IsHeavier old new
-IsStep old new (Step.Learnt clause) = IsHeavier old new × (clause.0 < length new.coding.search.clauses)
+IsStep old new (Step.Learnt clause) = IsHeavier old new
+    × (clause.0 < length new.coding.search.clauses)
 IsStep old new (Step.Refused r) = IsRefusal new.coding.search r.literals.items r.causes.items
 
 -- whether a decision was made, or nothing is left to decide

@@ -47,11 +47,13 @@ pub record RecordsSoft {N S : Type 0} (same : S → S → Bool) (one : Offered N
   pub encoded : new.encoded ≡ old.encoded
   pub deferred : new.deferred ≡ old.deferred
   pub fired : new.fired ≡ old.fired
-  pub encoding : (p : Packages N S) (root : Rules) → IsLawful p → IsEncoding same p root old → IsListed same p one → many ≡ is_many p one.name → IsEncoding same p root new
+  pub encoding : (p : Packages N S) (root : Rules) → IsLawful p → IsEncoding same p root old
+      → IsListed same p one → many ≡ is_many p one.name → IsEncoding same p root new
 
 -- the solvable is true on the trail
 abbrev pub IsTrue : {N S : Type 0} → Encoder N S → S → Type 0
-IsTrue e s = (u : VariableId) × Represents e.coding.atoms.keys u (Solvable s) × (has (made_true (history e.coding.search)) (yes u) ≡ true)
+IsTrue e s = (u : VariableId) × Represents e.coding.atoms.keys u (Solvable s)
+    × (has (made_true (history e.coding.search)) (yes u) ≡ true)
 
 -- The soft requirement, which is true, is recorded behind the others, and nothing else changed.
 pub record RecordsChosen {N S : Type 0} (same : S → S → Bool) (soft : S) (old new : Encoder N S) : Type 0 where
@@ -62,11 +64,14 @@ pub record RecordsChosen {N S : Type 0} (same : S → S → Bool) (soft : S) (ol
 
 -- there is a last soft requirement, and it isn't chosen
 abbrev pub IsUntaken : {N S : Type 0} → Encoder N S → Type 0
-IsUntaken {N} {S} e = (prefix : List S) × (s : S) × (e.recorded.softs.items ≡ prefix ++ s ∷ []) × ((v : VariableId) → Represents e.coding.atoms.keys v (Solvable s) → has (made_true (history e.coding.search)) (yes v) ≡ false)
+IsUntaken {N} {S} e = (prefix : List S) × (s : S) × (e.recorded.softs.items ≡ prefix ++ s ∷ [])
+    × ((v : VariableId) → Represents e.coding.atoms.keys v (Solvable s)
+    → has (made_true (history e.coding.search)) (yes v) ≡ false)
 
 -- The last soft requirement was removed, and nothing else changed.
 pub record TakesBack {N S : Type 0} (same : S → S → Bool) (old new : Encoder N S) : Type 0 where
   pub built : IsBuilt new
-  pub softs : (prefix : List S) (s : S) → old.recorded.softs.items ≡ prefix ++ s ∷ [] → new.recorded.softs.items ≡ prefix
+  pub softs : (prefix : List S) (s : S) → old.recorded.softs.items ≡ prefix ++ s ∷ []
+      → new.recorded.softs.items ≡ prefix
   pub rest : new ≡ record old { recorded = record old.recorded { softs = new.recorded.softs } }
   pub encoding : StaysEncoding same old new

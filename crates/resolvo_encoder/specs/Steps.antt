@@ -43,19 +43,24 @@ use Rattle.resolvo_encoder.specs.declared.encoder.Encoder.{Encoder}
 -- condition and those of the candidates
 pub record HasNeedLiterals {N : Type 0} (ls : FixedLists N) (clauses : List SatClause) (q : NeedClause) : Type 0 where
   pub in_range : q.clause.0 < length clauses
-  pub each : (l : Signed) → has (clause_at (lists clauses) q.clause.0) l ≡ true → has (no q.parent ∷ (condition_in ls q.condition ++ candidate_literals (candidates_in ls q.requirement))) l ≡ true
+  pub each : (l : Signed) → has (clause_at (lists clauses) q.clause.0) l ≡ true
+      → has (no q.parent ∷ (condition_in ls q.condition ++ candidate_literals (candidates_in ls q.requirement))) l ≡ true
 
--- The precondition of the calls, for any packages: the search is ready, registered solvables are
--- tied to their packages, candidates are positive literals of solvables, each gate is its
+-- The precondition of the calls, for any packages: the search is ready, and registered solvables
+-- are tied to their packages. Candidates are positive literals of solvables, and each gate is its
 -- requirement's. The clauses of the queue have their needs' literals, and what the queue knows of
--- them is so. What it saw of the trail, as far as the trail's least length, is there.
+-- them is right. What it saw of the trail, as far as the trail's least length, is there.
 pub record IsBuilt {N S : Type 0} (e : Encoder N S) : Type 0 where
   pub coding : IsCoding e.coding
   pub tied : AreTied e.registry e.coding
-  pub candidates : (r : Requirement) (c : Candidate N) → Contains (candidates_in e.lists r) c → (c.literal.positive ≡ true) × ((s : S) × Represents e.coding.atoms.keys c.literal.variable (Solvable s))
-  pub gates : (r : Requirement) (v : VariableId) → slot_of e.gates r ≡ Some v → Represents e.coding.atoms.keys v (Gate r)
+  pub candidates : (r : Requirement) (c : Candidate N) → Contains (candidates_in e.lists r) c
+      → (c.literal.positive ≡ true)
+      × ((s : S) × Represents e.coding.atoms.keys c.literal.variable (Solvable s))
+  pub gates : (r : Requirement) (v : VariableId) → slot_of e.gates r ≡ Some v
+      → Represents e.coding.atoms.keys v (Gate r)
   pub within : e.encoded ≤ length e.parents.keys
-  pub clauses : (q : NeedClause) → Contains (needs_of e.queue) q → HasNeedLiterals e.lists e.coding.search.clauses q
+  pub clauses : (q : NeedClause) → Contains (needs_of e.queue) q
+      → HasNeedLiterals e.lists e.coding.search.clauses q
   pub queue : IsSound e.lists e.queue
   pub seen : IsSeenOf e.coding.search.tracker e.queue.undecided.seen.items
 
@@ -97,27 +102,36 @@ pub record RegistersAll {N S : Type 0} (offered : List (Offered N S)) (given : L
   pub tied : AreTied t new
   pub keeps : (m : N) (u : VariableId) → IsTracked r m u → IsTracked t m u
   pub waits : (m : N) (u : VariableId) → IsQueued r m u → IsQueued t m u
-  pub only : (m : N) (u : VariableId) → IsTracked t m u → IsTracked r m u ⊎ ((o : Offered N S) × Contains offered o × (m ≡ o.name) × Represents new.atoms.keys u (Solvable o.solvable) × IsQueued t m u)
+  pub only : (m : N) (u : VariableId) → IsTracked t m u
+      → IsTracked r m u
+      ⊎ ((o : Offered N S) × Contains offered o × (m ≡ o.name)
+      × Represents new.atoms.keys u (Solvable o.solvable) × IsQueued t m u)
   pub many : t.many ≡ r.many
   pub clauses : new.search.clauses ≡ old.search.clauses
   pub kinds : new.kinds ≡ old.kinds
-  pub each : (o : Offered N S) → Contains offered o → (c : Candidate N) × Contains given c × IsOfferedAs t new o c
-  pub all : (c : Candidate N) → Contains given c → (o : Offered N S) × Contains offered o × IsOfferedAs t new o c
+  pub each : (o : Offered N S) → Contains offered o
+      → (c : Candidate N) × Contains given c × IsOfferedAs t new o c
+  pub all : (c : Candidate N) → Contains given c
+      → (o : Offered N S) × Contains offered o × IsOfferedAs t new o c
   pub ordered : AreCandidates new.atoms.keys given (offered_solvables offered)
 
 -- a requirement that has candidates keeps them
 abbrev pub KeepsLists : {N S : Type 0} → Encoder N S → Encoder N S → Type 0
-KeepsLists old new = (r : Requirement) → has_candidates old.lists r ≡ true → slot_of new.lists.candidates r ≡ slot_of old.lists.candidates r
+KeepsLists old new = (r : Requirement) → has_candidates old.lists r ≡ true
+    → slot_of new.lists.candidates r ≡ slot_of old.lists.candidates r
 
 -- a requirement that has candidates had them, or it is this one and has the offered ones, in their
 -- order
 abbrev pub AddsCandidates : {N S : Type 0} → Requirement → List (Offered N S) → Encoder N S → Encoder N S → Type 0
 AddsCandidates r offered old new = (q : Requirement) → has_candidates new.lists q ≡ true
-    → (slot_of new.lists.candidates q ≡ slot_of old.lists.candidates q) ⊎ ((q ≡ r) × AreCandidates new.coding.atoms.keys (candidates_in new.lists q) (offered_solvables offered))
+    → (slot_of new.lists.candidates q ≡ slot_of old.lists.candidates q)
+    ⊎ ((q ≡ r)
+    × AreCandidates new.coding.atoms.keys (candidates_in new.lists q) (offered_solvables offered))
 
 -- the solvable is offered with its package, of which it is a candidate
 abbrev pub IsListed : {N S : Type 0} → (S → S → Bool) → Packages N S → Offered N S → Type 0
-IsListed same p o = (o.name ≡ p.package_of o.solvable) × (is_in same p (listed (p.candidates_of o.name)) o.solvable ≡ true)
+IsListed same p o = (o.name ≡ p.package_of o.solvable)
+    × (is_in same p (listed (p.candidates_of o.name)) o.solvable ≡ true)
 
 -- the same, and the package's mark is known
 abbrev pub IsAddable : {N S : Type 0} → (S → S → Bool) → Packages N S → Encoder N S → Offered N S → Type 0
@@ -131,15 +145,22 @@ pub record Enrols {N S : Type 0} (same : S → S → Bool) (offered : List (Offe
   pub recorded : new.recorded ≡ old.recorded
   pub many : new.registry.many ≡ old.registry.many
   pub keeps : (m : N) (u : VariableId) → IsTracked old.registry m u → IsTracked new.registry m u
-  pub each : (o : Offered N S) → Contains offered o → (c : Candidate N) × Contains given c × IsOfferedAs new.registry new.coding o c
-  pub all : (c : Candidate N) → Contains given c → (o : Offered N S) × Contains offered o × IsOfferedAs new.registry new.coding o c
+  pub each : (o : Offered N S) → Contains offered o
+      → (c : Candidate N) × Contains given c × IsOfferedAs new.registry new.coding o c
+  pub all : (c : Candidate N) → Contains given c
+      → (o : Offered N S) × Contains offered o × IsOfferedAs new.registry new.coding o c
   pub ordered : AreCandidates new.coding.atoms.keys given (offered_solvables offered)
-  pub encoding : (p : Packages N S) (root : Rules) → IsLawful p → IsEncoding same p root old → ((o : Offered N S) → Contains offered o → IsAddable same p old o) → IsEncoding same p root new
+  pub encoding : (p : Packages N S) (root : Rules) → IsLawful p → IsEncoding same p root old
+      → ((o : Offered N S) → Contains offered o → IsAddable same p old o)
+      → IsEncoding same p root new
 
 -- the offered solvables are the requirement's candidates, unless it had some
 pub record Fixes {N S : Type 0} (same : S → S → Bool) (r : Requirement) (offered : List (Offered N S)) (old new : Encoder N S) : Type 0 where
   pub fixed : ((has_candidates old.lists r ≡ true) × (new ≡ old))
-      ⊎ ((has_candidates old.lists r ≡ false) × (middle : Encoder N S) × (given : Vec (Candidate N) Global) × Enrols same offered given.items old middle × FixesCandidates r given middle.lists new.lists × (new ≡ record middle { lists = new.lists }))
+      ⊎ ((has_candidates old.lists r ≡ false) × (middle : Encoder N S)
+      × (given : Vec (Candidate N) Global) × Enrols same offered given.items old middle
+      × FixesCandidates r given middle.lists new.lists
+      × (new ≡ record middle { lists = new.lists }))
 
 -- A requires clause of this kind was added: the variable is false, a literal of the condition is
 -- true, or a candidate is chosen. It is in the decision queue.
@@ -162,9 +183,13 @@ pub record EncodesNeed {N S : Type 0} (kinds : Kind N S) (v : VariableId) (condi
 -- has. The variable is the parent's or the gate's, the condition's literals are the case's.
 abbrev pub IsNeed : {N S : Type 0} → (S → S → Bool) → Packages N S → Rules → FixedLists N → List (ProofAtom N S) → Kind N S → VariableId → Option (DenseId DisjunctionTag ℕ) → Requirement → Type 0
 IsNeed same p root lists atoms Kind.Root v condition r = ⊥
-IsNeed same p root lists atoms (Kind.Needs parent need case) v condition r = (need.requirement ≡ r) × IsParentVariable atoms parent v × IsCondition same p lists atoms condition case × Contains (rules_for same p root parent).requirements need × Contains (cases_for same p need) case × AreMatched same p case
+IsNeed same p root lists atoms (Kind.Needs parent need case) v condition r = (need.requirement ≡ r)
+    × IsParentVariable atoms parent v × IsCondition same p lists atoms condition case
+    × Contains (rules_for same p root parent).requirements need
+    × Contains (cases_for same p need) case × AreMatched same p case
 IsNeed same p root lists atoms (Kind.Gated s w) v condition r = ⊥
-IsNeed same p root lists atoms (Kind.Shared w) v condition r = (w ≡ r) × (condition ≡ None) × Represents atoms v (Gate w) × IsRule same p root (Rule.shared w)
+IsNeed same p root lists atoms (Kind.Shared w) v condition r = (w ≡ r) × (condition ≡ None)
+    × Represents atoms v (Gate w) × IsRule same p root (Rule.shared w)
 IsNeed same p root lists atoms (Kind.Limits parent w s) v condition r = ⊥
 IsNeed same p root lists atoms (Kind.LimitsOutside parent w) v condition r = ⊥
 IsNeed same p root lists atoms (Kind.IsOut w s) v condition r = ⊥
@@ -241,7 +266,8 @@ pub record MarksPackage {N S : Type 0} (same : S → S → Bool) (name : N) (man
   pub built : IsBuilt new
   pub rest : new ≡ record old { registry = record old.registry { many = new.registry.many } }
   pub keeps : (n : N) → IsMany old.registry n → IsMany new.registry n
-  pub encoding : (p : Packages N S) (root : Rules) → IsLawful p → IsEncoding same p root old → many ≡ is_many p name → IsEncoding same p root new × IsMarkKnown same p new name
+  pub encoding : (p : Packages N S) (root : Rules) → IsLawful p → IsEncoding same p root old
+      → many ≡ is_many p name → IsEncoding same p root new × IsMarkKnown same p new name
 
 -- parents were added behind the others, or none
 pub record AddsParent {N S : Type 0} (old new : Encoder N S) : Type 0 where
@@ -250,4 +276,6 @@ pub record AddsParent {N S : Type 0} (old new : Encoder N S) : Type 0 where
 
 -- the requirements and constraints of the next parent are encoded, except deferred cases
 abbrev pub IsNextEncoded : {N S : Type 0} → (S → S → Bool) → Packages N S → Rules → Encoder N S → Type 0
-IsNextEncoded {N} {S} same p root e = (parent : SolvableIdOrRoot S) → slice_get e.parents.keys e.encoded ≡ Some parent → IsParentEncoded same p e root (solvable_of parent)
+IsNextEncoded {N} {S} same p root e = (parent : SolvableIdOrRoot S)
+    → slice_get e.parents.keys e.encoded ≡ Some parent
+    → IsParentEncoded same p e root (solvable_of parent)

@@ -15,9 +15,11 @@ pub record AreValues (values : ℕ → Option Bool) (known : List Signed) : Type
 
 -- no clause of the queue has anything to decide
 abbrev pub IsDecided : {N S : Type 0} → Encoder N S → (ℕ → Option Bool) → (N → ℕ) → Type 0
-IsDecided e values score = (q : NeedClause) → Contains (needs_of e.queue) q → offer_by (named_by e.lists) values score q ≡ None
+IsDecided e values score = (q : NeedClause) → Contains (needs_of e.queue) q
+    → offer_by (named_by e.lists) values score q ≡ None
 
 -- the root and each of these solvables are among the encoded parents
 pub record AreAmongEncoded {N S : Type 0} (e : Encoder N S) (members : List S) : Type 0 where
   pub root : (i : ℕ) × (i < e.encoded) × (slice_get e.parents.keys i ≡ Some Root)
-  pub each : (s : S) → Contains members s → (i : ℕ) × (i < e.encoded) × (slice_get e.parents.keys i ≡ Some (Solvable s))
+  pub each : (s : S) → Contains members s
+      → (i : ℕ) × (i < e.encoded) × (slice_get e.parents.keys i ≡ Some (Solvable s))

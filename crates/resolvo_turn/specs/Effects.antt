@@ -112,7 +112,8 @@ module _ {A N S C : Type 0} (same : S → S → Bool) (g : source.Ghosts A N S C
 
   -- ---- all rules of a parent
 
-  -- the parent, whose dependencies are known, has these requirements and constraints: they are clauses
+  -- the parent, whose dependencies are known, has these requirements and constraints: they are
+  -- clauses
   abbrev pub EncodesKnown : Option S → List ConditionalRequirement → List VersionSetId → Encoder N S → Encoder N S → Type 0
   EncodesKnown parent requirements constraints old new = (root : Rules)
       → AreRulesOf same (g.packages a) root parent requirements constraints
@@ -156,7 +157,8 @@ module _ {A N S C : Type 0} (same : S → S → Bool) (g : source.Ghosts A N S C
       → IsInOrderBy same g a root new
       × AreDeferred new parent need (cases_for same (g.packages a) need)
 
-  -- the case of these version sets, which have matches, is a clause, where the requirement is guarded
+  -- the case of these version sets, which have matches, is a clause, where the requirement is
+  -- guarded
   abbrev pub RequiresGuardedCase : Option S → ConditionalRequirement → List (ConditionSet N S) → Encoder N S → Encoder N S → Type 0
   RequiresGuardedCase parent need sets old new = (root : Rules) → IsInOrderBy same g a root old
       → IsPrepared same (g.packages a) old need.requirement

@@ -17,8 +17,8 @@ pub record NeedsLast {N S : Type 0} (same : S → S → Bool) (p : Packages N S)
   pub listed : Contains (rules_for same p root parent).requirements need
   pub last : index_in need.requirement ≡ 4294967295
 
--- The encoding has given its last variable, clause or disjunction; or the root or a solvable has a
--- requirement with the last index; or the source may lack ids.
+-- The encoding has given its last variable, clause or disjunction. Or the root or a solvable has a
+-- requirement with the last index, or the source may lack ids.
 pub data LacksIds {A N S C : Type 0} (same : S → S → Bool) (g : source.Ghosts A N S C) (a : A) (root : Rules) (e : Encoder N S) : Type 0 where
   coding : LacksNumber e.coding → LacksIds same g a root e
   disjunctions : disjunction_count e.lists ≡ 4294967295 → LacksIds same g a root e

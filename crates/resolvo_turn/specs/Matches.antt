@@ -22,7 +22,8 @@ pub record MatchesSets {N S : Type 0} (same : S → S → Bool) (sets : List (Co
       → ((v : VersionSetId) → Contains (sets_case sets) v → IsOfCase same p root v)
       → IsEncoding same p root new
 
--- The same of the version sets of a case of the parent's requirement: an encoding in order stays one.
+-- The same of the version sets of a case of the parent's requirement: an encoding in order stays
+-- one.
 abbrev pub MatchesCase : {A N S C : Type 0} → (S → S → Bool) → source.Ghosts A N S C → A → Option S → ConditionalRequirement → List (ConditionSet N S) → Encoder N S → Encoder N S → Type 0
 MatchesCase same g a parent need sets old new = (root : Rules) → IsInOrderBy same g a root old
     → AreSets same (g.packages a) sets

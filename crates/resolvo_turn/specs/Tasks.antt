@@ -36,8 +36,8 @@ bound t = work_left t + (18446744073709551616 - t.queued)
 abbrev pub AreExcluded : {N S : Type 0} → List S → Encoder N S → Type 0
 AreExcluded {N} {S} excluded e = (s : S) → Contains excluded s → IsForbidden (rules_of e) s
 
--- A solvable whose dependencies are unknown for this reason is excluded by a clause, as those are that
--- were excluded before.
+-- A solvable whose dependencies are unknown for this reason is excluded by a clause, as those are
+-- that were excluded before.
 pub record Excludes {N S : Type 0} (same : S → S → Bool) (s : S) (why : StringId) (before after : List S) (old new : Encoder N S) : Type 0 where
   pub lists : new.lists ≡ old.lists
   pub stays : (p : Packages N S) (root : RootRules) → IsLawful p
