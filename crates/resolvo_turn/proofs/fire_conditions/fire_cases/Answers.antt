@@ -1,7 +1,6 @@
 use Rattle.std.proofs.Common.{◌≡◌, inl, inr, length, refl, ◌∙◌, ap, subst, arith, rules}
-use Rattle.resolvo_pool_core.specs.RuleKeeping.{Rules}
 use Rattle.resolvo_encoder.specs.declared.encoder.Encoder.{Encoder}
-use Rattle.resolvo_turn.specs.Encoder.{IsInOrder}
+use Rattle.resolvo_turn.specs.Encoder.{StaysInOrder}
 use Rattle.resolvo_turn.proofs.AddLemmas.{needs_none, needs_then}
 use Rattle.resolvo_turn.proofs.PassLemmas.{passed_none, passed_more, IsFired}
 use Rattle.resolvo_turn.specs.LacksIds.{StopsInOrder}
@@ -18,7 +17,7 @@ loop-index-preserved g c =
     let old = c.loop-index.encoding in
     let new = c.fire_if_due.new.encoding in
     let fired : IsFired c.loop-index.has_fired c.in_ok-fire_if_due.field-0 c.if-branch.has_fired = elim c.if-branch.branch [ then-branch w ↦ inl (w.if-branch.true, w.has_fired-is) | else-branch w ↦ inr (w.if-branch.false, w.has_fired-is) ] in
-    let stays = subst (λ (a : g.row.A.Denot). (root : Rules) → IsInOrder same (g.A.PackageSource.packages a) (g.A.PackageSource.orders a) root old → IsInOrder same (g.A.PackageSource.packages a) (g.A.PackageSource.orders a) root new) before.same c.in_ok-fire_if_due.ensures.stays in
+    let stays = subst (λ (a : g.row.A.Denot). StaysInOrder same g.A.PackageSource a old new) before.same c.in_ok-fire_if_due.ensures.stays in
     record {
       same = c.in_ok-fire_if_due.ensures.same ∙ before.same;
       stays = λ root e. stays root (before.stays root e);

@@ -1,7 +1,6 @@
 use Rattle.std.proofs.Common.{◌≡◌}
-use Rattle.resolvo_pool_core.specs.RuleKeeping.{Rules}
 use Rattle.resolvo_encoder.specs.Steps.{IsBuilt}
-use Rattle.resolvo_turn.specs.Encoder.{IsInOrder, AddsNeeds}
+use Rattle.resolvo_turn.specs.Encoder.{AddsNeeds, StaysInOrder}
 use Rattle.resolvo_turn.proofs.PassLemmas.{Passed}
 use Rattle.resolvo_turn.proofs.fire_conditions.fire_cases.Given as goal
 
@@ -9,8 +8,7 @@ use Rattle.resolvo_turn.proofs.fire_conditions.fire_cases.Given as goal
 abbrev pub invariant-loop-index : goal.invariant-loop-index
 invariant-loop-index g l = record {
   same : l.answers ≡ l.initial.answers;
-  stays : (root : Rules) → IsInOrder g.A.SolvableId.PartialEq.eq (g.A.PackageSource.packages l.initial.answers) (g.A.PackageSource.orders l.initial.answers) root l.initial.encoding
-      → IsInOrder g.A.SolvableId.PartialEq.eq (g.A.PackageSource.packages l.initial.answers) (g.A.PackageSource.orders l.initial.answers) root l.encoding;
+  stays : StaysInOrder g.A.SolvableId.PartialEq.eq g.A.PackageSource l.initial.answers l.initial.encoding l.encoding;
   kept : AddsNeeds l.initial.encoding l.encoding;
   passed : Passed g.A.SolvableId.PartialEq.eq l.initial.encoding l.encoding l.has_fired l.index;
   built : IsBuilt l.encoding;

@@ -1,7 +1,6 @@
 use Rattle.std.proofs.Common.{◌≡◌, inl, inr, true, false, refl, ◌∙◌, subst, rules}
 use Rattle.std.proofs.lemmas.Bool.{both_ways}
-use Rattle.resolvo_pool_core.specs.RuleKeeping.{Rules}
-use Rattle.resolvo_turn.specs.Encoder.{IsInOrder}
+use Rattle.resolvo_turn.specs.Encoder.{StaysInOrder}
 use Rattle.resolvo_turn.proofs.AddLemmas.{needs_none, needs_then}
 use Rattle.resolvo_turn.proofs.PassLemmas.{IsFired, fires_on, stays_on}
 use Rattle.resolvo_turn.specs.LacksIds.{StopsInOrder}
@@ -19,7 +18,7 @@ loop-place-preserved g c =
     let old = c.loop-place.encoding in
     let new = c.fire_if_due.new.encoding in
     let fired : IsFired c.loop-place.has_fired c.in_ok-fire_if_due.field-0 c.if-branch.has_fired = elim c.if-branch.branch [ then-branch w ↦ inl (w.if-branch.true, w.has_fired-is) | else-branch w ↦ inr (w.if-branch.false, w.has_fired-is) ] in
-    let stays = subst (λ (a : g.row.A.Denot). (root : Rules) → IsInOrder same (g.A.PackageSource.packages a) (g.A.PackageSource.orders a) root old → IsInOrder same (g.A.PackageSource.packages a) (g.A.PackageSource.orders a) root new) before.same c.in_ok-fire_if_due.ensures.stays in
+    let stays = subst (λ (a : g.row.A.Denot). StaysInOrder same g.A.PackageSource a old new) before.same c.in_ok-fire_if_due.ensures.stays in
     let same_if : c.in_ok-fire_if_due.field-0 ≡ false → new ≡ old = λ h. (c.in_ok-fire_if_due.ensures.spent h).0 in
     record {
       same = c.in_ok-fire_if_due.ensures.same ∙ before.same;

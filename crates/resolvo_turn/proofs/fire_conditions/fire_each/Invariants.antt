@@ -1,7 +1,6 @@
 use Rattle.std.proofs.Common.{◌≡◌, true, false}
-use Rattle.resolvo_pool_core.specs.RuleKeeping.{Rules}
 use Rattle.resolvo_encoder.specs.Steps.{IsBuilt}
-use Rattle.resolvo_turn.specs.Encoder.{IsInOrder, AddsNeeds}
+use Rattle.resolvo_turn.specs.Encoder.{AddsNeeds, StaysInOrder}
 use Rattle.resolvo_turn.specs.Turn.{FiresMore}
 use Rattle.resolvo_turn.proofs.fire_conditions.fire_each.Given as goal
 
@@ -9,8 +8,7 @@ use Rattle.resolvo_turn.proofs.fire_conditions.fire_each.Given as goal
 abbrev pub invariant-loop-place : goal.invariant-loop-place
 invariant-loop-place g l = record {
   same : l.answers ≡ l.initial.answers;
-  stays : (root : Rules) → IsInOrder g.A.SolvableId.PartialEq.eq (g.A.PackageSource.packages l.initial.answers) (g.A.PackageSource.orders l.initial.answers) root l.initial.encoding
-      → IsInOrder g.A.SolvableId.PartialEq.eq (g.A.PackageSource.packages l.initial.answers) (g.A.PackageSource.orders l.initial.answers) root l.encoding;
+  stays : StaysInOrder g.A.SolvableId.PartialEq.eq g.A.PackageSource l.initial.answers l.initial.encoding l.encoding;
   kept : AddsNeeds l.initial.encoding l.encoding;
   fires : l.has_fired ≡ true → FiresMore l.initial.encoding l.encoding;
   unchanged : l.has_fired ≡ false → l.encoding ≡ l.initial.encoding;

@@ -1,15 +1,13 @@
 use Rattle.std.proofs.Common.{◌≡◌}
-use Rattle.resolvo_pool_core.specs.RuleKeeping.{Rules}
 use Rattle.resolvo_encoder.specs.Steps.{IsBuilt}
-use Rattle.resolvo_turn.specs.Encoder.{IsInOrder, AddsNeeds}
+use Rattle.resolvo_turn.specs.Encoder.{AddsNeeds, StaysInOrder}
 use Rattle.resolvo_turn.proofs.guards.guard_needs.Given as goal
 
 -- the encoding is still in order
 abbrev pub invariant-loop-need : goal.invariant-loop-need
 invariant-loop-need g l = record {
   same : l.answers ≡ l.initial.answers;
-  stays : (root : Rules) → IsInOrder g.A.SolvableId.PartialEq.eq (g.A.PackageSource.packages l.initial.answers) (g.A.PackageSource.orders l.initial.answers) root l.initial.encoding
-      → IsInOrder g.A.SolvableId.PartialEq.eq (g.A.PackageSource.packages l.initial.answers) (g.A.PackageSource.orders l.initial.answers) root l.encoding;
+  stays : StaysInOrder g.A.SolvableId.PartialEq.eq g.A.PackageSource l.initial.answers l.initial.encoding l.encoding;
   kept : AddsNeeds l.initial.encoding l.encoding;
   built : IsBuilt l.encoding;
 }

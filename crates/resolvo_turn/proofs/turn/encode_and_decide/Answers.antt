@@ -1,14 +1,13 @@
 use Rattle.std.proofs.Common.{subst, rules}
-use Rattle.resolvo_pool_core.specs.RuleKeeping.{Rules}
 use Rattle.resolvo_encoder.proofs.Bases.{turn_has, turn_then}
-use Rattle.resolvo_turn.specs.Encoder.{IsInOrder}
+use Rattle.resolvo_turn.specs.Encoder.{StaysInOrder}
 use Rattle.resolvo_turn.proofs.EndLemmas.{all_goes, whole_goes}
 use Rattle.resolvo_turn.specs.LacksIds.{StopsInOrder}
 use Rattle.resolvo_turn.proofs.turn.encode_and_decide.Goals as goal
 
 pub returns-clause-stays : goal.returns-clause-stays
 returns-clause-stays g c = λ root is e.
-    (subst (λ (a : g.row.A.Denot). (root : Rules) → IsInOrder g.A.SolvableId.PartialEq.eq (g.A.PackageSource.packages a) (g.A.PackageSource.orders a) root c.encode.new.encoding → IsInOrder g.A.SolvableId.PartialEq.eq (g.A.PackageSource.packages a) (g.A.PackageSource.orders a) root c.choose_and_decide.new.encoding) c.in_ok-encode.ensures.same c.in_ok-refusal.ensures.stays)
+    (subst (λ (a : g.row.A.Denot). StaysInOrder g.A.SolvableId.PartialEq.eq g.A.PackageSource a c.encode.new.encoding c.choose_and_decide.new.encoding) c.in_ok-encode.ensures.same c.in_ok-refusal.ensures.stays)
     root (c.in_ok-encode.ensures.encoded root is e)
 
 pub returns-clause-all : goal.returns-clause-all

@@ -1,8 +1,7 @@
 use Rattle.std.proofs.Common.{Option, ◌∙◌, subst, rules}
 use Rattle.resolvo_sat.specs.declared.analyze.FinalConflict.{FinalConflict}
-use Rattle.resolvo_pool_core.specs.RuleKeeping.{Rules}
 use Rattle.resolvo_encoder.proofs.Bases.{turn_then}
-use Rattle.resolvo_turn.specs.Encoder.{IsInOrder}
+use Rattle.resolvo_turn.specs.Encoder.{StaysInOrder}
 use Rattle.resolvo_turn.specs.Turn.{IsDecisionOf}
 use Rattle.resolvo_turn.proofs.AddLemmas.{all_then, needs_parents, needs_then}
 use Rattle.resolvo_turn.proofs.EndLemmas.{chosen_then, finds_goes, finds_then, round_complete}
@@ -40,7 +39,7 @@ returns-then-has_new-clause-stays g c = λ root is e.
     let same = g.A.SolvableId.PartialEq.eq in
     let old = c.encode_and_decide.new.encoding in
     let new = c.scan_new.new.encoding in
-    (subst (λ (a : g.row.A.Denot). (root : Rules) → IsInOrder same (g.A.PackageSource.packages a) (g.A.PackageSource.orders a) root old → IsInOrder same (g.A.PackageSource.packages a) (g.A.PackageSource.orders a) root new) c.in_ok-decided.ensures.same c.in_ok-has_new.ensures.stays)
+    (subst (λ (a : g.row.A.Denot). StaysInOrder same g.A.PackageSource a old new) c.in_ok-decided.ensures.same c.in_ok-has_new.ensures.stays)
     root (c.in_ok-decided.ensures.stays root is e)
 
 pub returns-then-has_new-clause-adds : goal.returns-then-has_new-clause-adds
@@ -80,8 +79,8 @@ returns-then-has_more-clause-stays g c = λ root is e.
     let first = c.encode_and_decide.new.encoding in
     let old = c.scan_new.new.encoding in
     let new = c.scan_all.new.encoding in
-    let one = subst (λ (a : g.row.A.Denot). (root : Rules) → IsInOrder same (g.A.PackageSource.packages a) (g.A.PackageSource.orders a) root first → IsInOrder same (g.A.PackageSource.packages a) (g.A.PackageSource.orders a) root old) c.in_ok-decided.ensures.same c.in_ok-has_new.ensures.stays in
-    let two = subst (λ (a : g.row.A.Denot). (root : Rules) → IsInOrder same (g.A.PackageSource.packages a) (g.A.PackageSource.orders a) root old → IsInOrder same (g.A.PackageSource.packages a) (g.A.PackageSource.orders a) root new) (c.in_ok-has_new.ensures.same ∙ c.in_ok-decided.ensures.same) c.in_ok-has_more.ensures.stays in
+    let one = subst (λ (a : g.row.A.Denot). StaysInOrder same g.A.PackageSource a first old) c.in_ok-decided.ensures.same c.in_ok-has_new.ensures.stays in
+    let two = subst (λ (a : g.row.A.Denot). StaysInOrder same g.A.PackageSource a old new) (c.in_ok-has_new.ensures.same ∙ c.in_ok-decided.ensures.same) c.in_ok-has_more.ensures.stays in
     two root (one root (c.in_ok-decided.ensures.stays root is e))
 
 pub returns-then-has_more-clause-adds : goal.returns-then-has_more-clause-adds
@@ -115,8 +114,8 @@ returns-else-has_more-clause-stays g c = λ root is e.
     let first = c.encode_and_decide.new.encoding in
     let old = c.scan_new.new.encoding in
     let new = c.scan_all.new.encoding in
-    let one = subst (λ (a : g.row.A.Denot). (root : Rules) → IsInOrder same (g.A.PackageSource.packages a) (g.A.PackageSource.orders a) root first → IsInOrder same (g.A.PackageSource.packages a) (g.A.PackageSource.orders a) root old) c.in_ok-decided.ensures.same c.in_ok-has_new.ensures.stays in
-    let two = subst (λ (a : g.row.A.Denot). (root : Rules) → IsInOrder same (g.A.PackageSource.packages a) (g.A.PackageSource.orders a) root old → IsInOrder same (g.A.PackageSource.packages a) (g.A.PackageSource.orders a) root new) (c.in_ok-has_new.ensures.same ∙ c.in_ok-decided.ensures.same) c.in_ok-has_more.ensures.stays in
+    let one = subst (λ (a : g.row.A.Denot). StaysInOrder same g.A.PackageSource a first old) c.in_ok-decided.ensures.same c.in_ok-has_new.ensures.stays in
+    let two = subst (λ (a : g.row.A.Denot). StaysInOrder same g.A.PackageSource a old new) (c.in_ok-has_new.ensures.same ∙ c.in_ok-decided.ensures.same) c.in_ok-has_more.ensures.stays in
     two root (one root (c.in_ok-decided.ensures.stays root is e))
 
 pub returns-else-has_more-clause-adds : goal.returns-else-has_more-clause-adds
@@ -151,6 +150,6 @@ returns-in_err-has_more-clause-ids g c = λ is root are e.
     let same = g.A.SolvableId.PartialEq.eq in
     let first = c.encode_and_decide.new.encoding in
     let old = c.scan_new.new.encoding in
-    let one = subst (λ (a : g.row.A.Denot). (root : Rules) → IsInOrder same (g.A.PackageSource.packages a) (g.A.PackageSource.orders a) root first → IsInOrder same (g.A.PackageSource.packages a) (g.A.PackageSource.orders a) root old) c.in_ok-decided.ensures.same c.in_ok-has_new.ensures.stays in
+    let one = subst (λ (a : g.row.A.Denot). StaysInOrder same g.A.PackageSource a first old) c.in_ok-decided.ensures.same c.in_ok-has_new.ensures.stays in
     let stops = subst (λ (a : g.row.A.Denot). StopsInOrder same g.A.PackageSource a old c.scan_all.new.encoding) (c.in_ok-has_new.ensures.same ∙ c.in_ok-decided.ensures.same) (search (rules, is)) in
     stops root (one root (c.in_ok-decided.ensures.stays root are e))
