@@ -37,3 +37,4 @@ pub mod LoadingLemmas
 pub mod FirstLemmas
 pub mod Places
 pub mod GrowLemmas
+pub mod PairLemmas

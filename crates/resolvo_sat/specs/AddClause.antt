@@ -1,10 +1,13 @@
 -- A new clause watches two of its literals.
-use Rattle.std.specs.Prelude.{◌≡◌, ◌≤◌, ◌&&◌, ◌⊎◌, Bool, true, false, not, [], ◌∷◌, ◌++◌, List, length, Option, Some, None, is_none, IfSome}
+use Rattle.std.specs.Prelude.{◌≡◌, ℕ, ◌<◌, ◌≤◌, ◌&&◌, ◌⊎◌, Bool, true, false, not, [], ◌∷◌, ◌++◌, List, length, map, slice_index_or, Option, Some, None, is_none, IfSome}
 use Rattle.resolvo_pool_core.specs.declared.id.ClauseId.{ClauseId}
-use Rattle.resolvo_store_core.specs.Signed.{Signed, same_literal, has}
+use Rattle.resolvo_pool_core.specs.declared.id.VariableId.{VariableId}
+use Rattle.resolvo_store_core.specs.Signed.{Signed, negation, same_literal, has}
+use Rattle.resolvo_store_core.specs.Clauses.{no}
+use Rattle.resolvo_store_core.specs.AtMostOne.{ties}
 use Rattle.resolvo_store_core.specs.Watches.{watchers, StartsIn}
 use Rattle.resolvo_store_core.specs.declared.watched_literals.WatchedLiterals.{WatchedLiterals}
-use Rattle.resolvo_sat.specs.Clauses.{SatClause}
+use Rattle.resolvo_sat.specs.Clauses.{SatClause, sat_clause}
 use Rattle.resolvo_sat.specs.declared.state.SatState.{SatState}
 use Rattle.resolvo_sat.specs.declared.watch_lists.WatchLists.{WatchLists}
 use Rattle.resolvo_sat.specs.declared.watch_lists.UnitClause.{UnitClause}
@@ -15,7 +18,7 @@ use Rattle.resolvo_sat.specs.Entries.{made_true, top_level, IsUndone}
 use Rattle.resolvo_sat.specs.State.{history}
 use Rattle.resolvo_sat.specs.Steps.{Adds, forced_entry}
 use Rattle.resolvo_sat.specs.Propagation.{IsOnly, IsOwnPair, IsReady, AreCovered}
-use Rattle.resolvo_sat.specs.Pending.{AreOpen}
+use Rattle.resolvo_sat.specs.Pending.{AreOpen, KeepsLists}
 
 -- the list, with this item appended where the flag is set
 abbrev pub with_last : {X : Type 0} → Bool → X → List X → List X
@@ -71,6 +74,44 @@ pub record AddsClause (c : SatClause) (id : ClauseId) (old : SatState) (v : Watc
   pub adds : Adds c id old new
   pub ready : IsReady new w
   pub covered : AreCovered new w
+
+-- these are the clause's two literals, and they differ
+pub record IsPairOf (clause : List Signed) (p : WatchedLiterals) : Type 0 where
+  pub is : clause ≡ p.first ∷ p.second ∷ []
+  pub differ : same_literal p.first p.second ≡ false
+
+-- where the flag is set, the literal isn't false
+abbrev pub IsFreeIf : Bool → SatState → Signed → Type 0
+IsFreeIf b s l = b ≡ true → has (made_true (history s)) (negation l) ≡ false
+
+-- The clause watches both literals. It is pending, unless neither of them is false.
+pub record BeginsPair (c : ClauseId) (p : WatchedLiterals) (s : SatState) (v w : WatchLists) : Type 0 where
+  pub noted : WatchLists
+  pub begun : WatchLists
+  pub notes : NotesPending c (Some p) s v noted
+  pub begins : Begins (record { clause = c; literal = p.first }) (Some p) true noted begun
+  pub kept : KeepsLists begun w
+
+-- the clause of a tie: where the one variable is true, the other one has this value
+abbrev pub tie_clause : VariableId × VariableId × Bool → SatClause
+tie_clause t = sat_clause (no t.0 ∷ (let l : Signed = record { variable = t.1; positive = t.2 } in l) ∷ []) []
+
+-- the clauses that tie a variable to the binary digits of a place, from the lowest on
+abbrev pub tie_clauses : ℕ → VariableId → List VariableId → List SatClause
+tie_clauses place x digits = map tie_clause (ties place x digits)
+
+-- these are among so many variables
+abbrev pub AreVariables : ℕ → List VariableId → Type 0
+AreVariables count vs = (i : ℕ) → i < length vs → (slice_index_or vs i (record { 0 = 0 })).0 < count
+
+-- the clauses were appended, and the watch lists list them
+pub record AddsClauses (cs : List SatClause) (old new : SatState) (w : WatchLists) : Type 0 where
+  pub ready : IsReady new w
+  pub covered : AreCovered new w
+  pub variables : new.variables ≡ old.variables
+  pub base_level : new.base_level ≡ old.base_level
+  pub tracker : new.tracker ≡ old.tracker
+  pub added : new.clauses ≡ old.clauses ++ cs
 
 -- The search jumped back to the backjump level, the learnt clause was added, and its asserting literal was assigned.
 pub record Learns (x : Learnt) (id : ClauseId) (old new : SatState) (w : WatchLists) : Type 0 where

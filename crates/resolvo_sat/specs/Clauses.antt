@@ -3,6 +3,7 @@ use Rattle.std.specs.Prelude.{◌≡◌, ℕ, zero, suc, ◌≤◌, List, [], �
 use Rattle.std.specs.List.{slice_range}
 use Rattle.resolvo_pool_core.specs.declared.id.ClauseId.{ClauseId}
 use Rattle.resolvo_store_core.specs.Signed.{Signed}
+use Rattle.resolvo_store_core.specs.declared.watched_literals.WatchedLiterals.{WatchedLiterals}
 use Rattle.resolvo_sat.specs.declared.clause_arena.ClauseEnd.{ClauseEnd}
 
 -- A clause: one of its literals is true. Where it has causes, it follows from these.
@@ -12,6 +13,10 @@ pub record SatClause : Type 0 where
 
 abbrev pub sat_clause : List Signed → List ClauseId → SatClause
 sat_clause literals causes = record { literals = literals; causes = causes }
+
+-- a rule of two literals
+abbrev pub pair_clause : WatchedLiterals → SatClause
+pair_clause p = sat_clause (p.first ∷ p.second ∷ []) []
 
 -- the causes of the clause of this number, or none
 abbrev pub causes_at : List SatClause → ℕ → List ClauseId

@@ -106,7 +106,7 @@ impl SatState {
 
     /// Lists a new clause as pending, where a literal that it watches is false.
     #[inline(always)]
-    fn note_pending(
+    pub(crate) fn note_pending(
         &self,
         watching: &mut WatchLists,
         clause: ClauseId,
@@ -169,7 +169,12 @@ impl WatchLists {
     /// Lists a new clause in the lists of the two literals that it watches, or as the unit clause of
     /// this literal.
     #[inline(always)]
-    fn begin(&mut self, unit: UnitClause, watched: Option<WatchedLiterals>, is_rule: bool) -> R<()>
+    pub(crate) fn begin(
+        &mut self,
+        unit: UnitClause,
+        watched: Option<WatchedLiterals>,
+        is_rule: bool,
+    ) -> R<()>
         requires differ { IfSome watched (λ p. same_literal p.first p.second ≡ false) }
         ensures begun { IfOk result (λ _. Begins unit watched is_rule self.old self.new) }
         ensures refusal { IsOkUnless result Memory }

@@ -1,5 +1,5 @@
 //! The steps of the search: assign a literal, decide a variable, undo entries, add a clause.
-ghost use Rattle.std.specs.Prelude.{◌≡◌, ◌<◌, ◌≤◌, length, true, IfOk, IsErrOf, IsOkUnless};
+ghost use Rattle.std.specs.Prelude.{◌≡◌, ◌<◌, ◌≤◌, [], ◌∷◌, length, true, IfOk, IsErrOf, IsOkUnless};
 ghost use Rattle.resolvo_pool_core.specs.declared.want.Want.TheVariants.{Memory, Ids};
 ghost use Rattle.resolvo_store_core.specs.Signed.{negation, has};
 ghost use Rattle.resolvo_store_core.specs.Clauses.{yes};
@@ -125,6 +125,23 @@ impl SatState {
     {
         // split for the prover: error and answer
         let id = self.clauses.push(literals, causes)?;
+        Ok(id)
+    }
+
+    /// Adds a rule of two literals.
+    #[inline(always)]
+    pub fn push_pair(&mut self, first: Literal, second: Literal) -> R<ClauseId>
+        requires state { IsState self.old }
+        requires in_range { AreInRange (count_of self.old) (first ∷ second ∷ []) }
+        // After an answer.
+        ensures added { IfOk result
+            (λ id. Adds (sat_clause (first ∷ second ∷ []) []) id self.old self.new) }
+        // After a refusal.
+        ensures ids { IsErrOf result Ids → length self.old.clauses ≡ 4294967295 }
+        ensures full { IsErrOf result Ids → length self.new.clauses ≡ 4294967295 }
+    {
+        // split for the prover: error and answer
+        let id = self.clauses.push_pair(first, second)?;
         Ok(id)
     }
 }

@@ -79,6 +79,18 @@ impl ClauseArena {
         Ok(ClauseId(number as u32))
     }
 
+    /// Adds a rule of two literals under a new number.
+    #[inline(always)]
+    pub fn push_pair(&mut self, first: Literal, second: Literal) -> R<ClauseId>
+        ensures id { IfOk result (λ id. id.0 ≡ length self.old) }
+        ensures put { OnOk result (self.new
+            ≡ self.old ++ sat_clause (first ∷ second ∷ []) [] ∷ []) }
+        ensures err { OnErr result (self.new ≡ self.old) }
+        ensures ids { IsErrOf result Ids → length self.old ≡ 4294967295 }
+    {
+        self.push(&[first, second], &[])
+    }
+
     /// The literals of the clause of a number.
     pub fn literals(&self, number: usize) -> &[Literal]
         requires { number < length self.now }

@@ -4,6 +4,7 @@
 #![tactic(auto)]
 
 pub mod add_clause;
+pub mod add_pair;
 pub mod analyze;
 pub mod analyze_final;
 pub mod assign;

@@ -21,37 +21,7 @@ use resolvo_store_core::watched_literals::WatchedLiterals;
 impl SatState {
     /// Notes where a new rule is falsified as it is added, or where it sets a literal, if its kind does
     /// so.
-    #[inline(always)]
-    pub fn note_rule(
-        &self,
-        watching: &mut WatchLists,
-        clause: ClauseId,
-        literals: &[Literal],
-        sets_at_once: bool,
-    ) -> R<()>
-        requires { IsState self.now }
-        ensures kept { KeepsLists watching.old watching.new }
-        ensures refusal { IsOkUnless result Memory }
-    {
-        if watching.at_once.is_empty() && self.are_two_open(literals) {
-            return Ok(());
-        }
-        self.note_closed(watching, clause, literals, sets_at_once)
-    }
-
-    /// Whether the first two literals differ, and neither is false. Such a clause sets nothing.
-    #[inline(always)]
-    fn are_two_open(&self, literals: &[Literal]) -> bool
-        requires { IsState self.now }
-    {
-        literals.len() > 1
-            && literals[0] != literals[1]
-            && !self.is_false(literals[0])
-            && !self.is_false(literals[1])
-    }
-
-    /// The same of a rule that may be falsified, or set a literal.
-    fn note_closed(
+    pub(crate) fn note_rule(
         &self,
         watching: &mut WatchLists,
         clause: ClauseId,

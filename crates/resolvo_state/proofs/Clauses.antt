@@ -36,7 +36,7 @@ use Rattle.resolvo_state.specs.SolverState.{IsCoding, AddsRule, AddsDenial, Adva
 use Rattle.resolvo_state.proofs.Positions.{get_in_prefix, get_old, get_last, get_push, prefix_equal}
 
 -- a literal of one of the first clauses is in it among more
-has_before : (old more : List SatClause) (m : ℕ) (l : Signed) → has (clause_at (lists old) m) l ≡ true → has (clause_at (lists (old ++ more)) m) l ≡ true
+pub has_before : (old more : List SatClause) (m : ℕ) (l : Signed) → has (clause_at (lists old) m) l ≡ true → has (clause_at (lists (old ++ more)) m) l ≡ true
 has_before old more m l h =
     let within : m < length (lists old) = clause_in_range (lists old) m l h in
     subst (λ (ls : List Signed). has ls l ≡ true) (sym (ap (λ (cs : List (List Signed)). clause_at cs m) (lists-append old more) ∙ clause_stays (lists old) (lists more) m within)) h

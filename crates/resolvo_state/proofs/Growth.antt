@@ -34,6 +34,8 @@ use Rattle.resolvo_state.specs.declared.solver_state.SolverState.{SolverState}
 use Rattle.resolvo_state.specs.Atoms.{origin, Represents}
 use Rattle.resolvo_state.specs.ClauseKinds.{rule_of, kind_at, rule_at, rules_in}
 use Rattle.resolvo_state.specs.SolverState.{IsCoding, Grows, SameTrail, Advances, KeepsClauses}
+use Rattle.resolvo_state.specs.declared.atom.ProofAtom.TheVariants.{Bit}
+use Rattle.resolvo_state.specs.Registered.{AreDigits}
 use Rattle.resolvo_state.specs.Spelled.{Spelled, AreRegistered}
 use Rattle.resolvo_state.proofs.Positions.{prefix_get, get_old, get_below, contains_get, prefix_same, prefix_then}
 use Rattle.resolvo_state.proofs.Origins.{count_is, coding_once, represents_below, represents_more, origin_prefix, one_variable}
@@ -59,6 +61,9 @@ trail_then a b c f g = record { tracker = g.tracker ∙ f.tracker }
 -- variables, and what they represent, stay
 pub represents_grow : {N S : Type 0} (old new : SolverState N S) (v : VariableId) (a : ProofAtom N S) → Grows old new → Represents old.atoms.keys v a → Represents new.atoms.keys v a
 represents_grow old new v a grows present = represents_more old.atoms.keys new.atoms.keys v a grows.atoms present
+
+pub digits_grow : {N S : Type 0} (name : N) (old new : SolverState N S) (vs : List VariableId) → Grows old new → AreDigits name old.atoms.keys vs → AreDigits name new.atoms.keys vs
+digits_grow name old new vs grows are i v h = represents_grow old new v (Bit name i) grows (are i v h)
 
 -- an atom has one variable
 pub represents_once : {N S : Type 0} (c : SolverState N S) (u v : VariableId) (a : ProofAtom N S) → IsCoding c → Represents c.atoms.keys u a → Represents c.atoms.keys v a → u ≡ v

@@ -11,6 +11,7 @@ pub mod ChosenLemmas
 pub mod Choices
 pub mod TieLemmas
 pub mod NewTies
+pub mod DigitLemmas
 pub mod TrackLemmas
 pub mod NameLemmas
 pub mod RegisterLemmas

@@ -1,10 +1,10 @@
 -- The ties that a new variable brings: those of earlier ones to its new digit, its own, and the one to the new digit.
-use Rattle.std.proofs.Common.{◌≡◌, ℕ, zero, suc, ◌+◌, ◌/◌, ◌%◌, ◌<◌, ◌≤◌, ◌==◌, Bool, true, false, List, [], ◌∷◌, ◌++◌, map, length, get_or, Option, Some, None, refl, sym, ◌∙◌, ap, subst, arith}
+use Rattle.std.proofs.Common.{◌≡◌, ℕ, zero, suc, ◌+◌, ◌/◌, ◌%◌, ◌<◌, ◌≤◌, ◌==◌, Bool, true, false, List, [], ◌∷◌, ◌++◌, map, length, get_or, Option, Some, refl, sym, ◌∙◌, ap, subst, arith}
 use Rattle.std.specs.Prelude.{slice_get}
 use Rattle.std.proofs.Math.Nat.{min-eq_left, min-eq_right}
 use Rattle.std.proofs.lemmas.List.{length-map}
 use Rattle.resolvo_pool_core.specs.declared.id.VariableId.{VariableId}
-use Rattle.resolvo_store_core.specs.AtMostOne.{ties, tie_all}
+use Rattle.resolvo_store_core.specs.AtMostOne.{digit, ties, tie_all}
 use Rattle.resolvo_state.specs.declared.solver_state.SolverState.{SolverState}
 use Rattle.resolvo_state.specs.SolverState.{Grows}
 use Rattle.resolvo_state.specs.Registered.{first_of, place_from, IsTie, AreTies, AddsTie, AddsTies}
@@ -23,22 +23,11 @@ earlier_at [] w i d e below = absurd (omega arith)
 earlier_at (x ∷ xs) w zero d e below = refl
 earlier_at (x ∷ xs) w (suc i) d e below = earlier_at xs w i d e (omega arith)
 
--- what is left of a place behind so many digits
-abbrev pub rest_at : ℕ → ℕ → ℕ
-rest_at k zero = k
-rest_at k (suc i) = rest_at (k / 2) i
-
-pub rest_next : (k i : ℕ) → rest_at k (i + 1) ≡ rest_at k i / 2
-rest_next k i = let e : i + 1 ≡ suc i = omega arith in ap (rest_at k) e ∙ go k i
-  where
-    go : (k i : ℕ) → rest_at k (suc i) ≡ rest_at k i / 2
-    go k zero = refl
-    go k (suc i) = go (k / 2) i
-
-pub own_tie_at : (k : ℕ) (x : VariableId) (vs : List VariableId) (i : ℕ) (d : Tie) (e : VariableId) → i < length vs → get_or (ties k x vs) i d ≡ (x, get_or vs i e, rest_at k i % 2 == 1)
-own_tie_at k x [] i d e below = absurd (omega arith)
-own_tie_at k x (v ∷ vs) zero d e below = refl
-own_tie_at k x (v ∷ vs) (suc i) d e below = own_tie_at (k / 2) x vs i d e (omega arith)
+-- the tie at this index, with the digit there
+pub ties_at : (k : ℕ) (x : VariableId) (vs : List VariableId) (i : ℕ) (tie : Tie) → slice_get (ties k x vs) i ≡ Some tie → (tie.0 ≡ x) × (slice_get vs i ≡ Some tie.1) × (tie.2 ≡ digit k i)
+ties_at k x [] i tie h = absurd cc
+ties_at k x (w ∷ vs) zero tie h = let e : (x, w, k % 2 == 1) ≡ tie = cc in (ap (λ (t : Tie). t.0) (sym e), ap (λ (t : Tie). Some t.1) e, ap (λ (t : Tie). t.2) (sym e))
+ties_at k x (w ∷ vs) (suc i) tie h = ties_at (k / 2) x vs i tie h
 
 pub own_count : (k : ℕ) (x : VariableId) (vs : List VariableId) → length (ties k x vs) ≡ length vs
 own_count k x [] = refl
@@ -51,10 +40,6 @@ pub place_last : (last i : ℕ) → place_from last last i ≡ last
 place_last last i = min-eq_right (let h : last ≤ last + i = omega arith in h)
 
 module _ {N S : Type 0} (name : N) (xs vs : List VariableId) (x : VariableId) where
-  -- with no new digit there are its own alone
-  pub own_alone : (o : Option VariableId) (c : SolverState N S) → o ≡ None → AreTies name c.atoms.keys (first_of o (length xs)) (length xs) (tie_all xs vs x o) → AreTies name c.atoms.keys (length xs) (length xs) (ties (length xs) x vs)
-  own_alone o c none are = subst (λ (q : Option VariableId). AreTies name c.atoms.keys (first_of q (length xs)) (length xs) (tie_all xs vs x q)) none are
-
   module _ (o : Option VariableId) (w : VariableId) (some : o ≡ Some w) where
     with_digit : (c : SolverState N S) → AreTies name c.atoms.keys (first_of o (length xs)) (length xs) (tie_all xs vs x o) → AreTies name c.atoms.keys 0 (length xs) (tie_all xs vs x (Some w))
     with_digit c are = subst (λ (q : Option VariableId). AreTies name c.atoms.keys (first_of q (length xs)) (length xs) (tie_all xs vs x q)) some are
@@ -68,10 +53,6 @@ module _ {N S : Type 0} (name : N) (xs vs : List VariableId) (x : VariableId) wh
         let long : length (earlier_ties xs w) ≡ length xs = length-map xs (λ (y : VariableId). let t : Tie = (y, w, false) in t) in
         let at : place_from 0 (length xs) (length (earlier_ties xs w) + j) ≡ length xs = min-eq_right (let h : length xs ≤ 0 + (length (earlier_ties xs w) + j) = omega arith in h) in
         subst (λ k. IsTie name c.atoms.keys k tie) at (with_digit c are (length (earlier_ties xs w) + j) tie (get_behind (earlier_ties xs w) (ties (length xs) x vs ++ (x, w, true) ∷ []) j tie h))
-
-    pub own_are : (a b : SolverState N S) → Grows a b → AreTies name a.atoms.keys (first_of o (length xs)) (length xs) (tie_all xs vs x o) → AreTies name b.atoms.keys (length xs) (length xs) (ties (length xs) x vs)
-    own_are a b grows are i tie h =
-        subst (λ k. IsTie name b.atoms.keys k tie) (sym (place_last (length xs) i)) (tie_grows name (length xs) tie a b grows (behind_is a are i tie (get_in_prefix (ties (length xs) x vs) ((x, w, true) ∷ []) i tie h)))
 
     pub last_is : (a b : SolverState N S) → Grows a b → AreTies name a.atoms.keys (first_of o (length xs)) (length xs) (tie_all xs vs x o) → IsTie name b.atoms.keys (length xs) (x, w, true)
     last_is a b grows are = tie_grows name (length xs) (x, w, true) a b grows (behind_is a are (length (ties (length xs) x vs)) (x, w, true) (get_last (ties (length xs) x vs) (x, w, true)))

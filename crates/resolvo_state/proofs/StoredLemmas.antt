@@ -1,12 +1,13 @@
 -- Kinds as they are stored, while needs, entries and clauses are added.
-use Rattle.std.proofs.Common.{◌≡◌, ℕ, zero, suc, ◌+◌, ◌<◌, ◌≤◌, List, [], ◌∷◌, ◌++◌, length, get_or, Some, Option, refl, sym, ◌∙◌, ap, subst, arith}
+use Rattle.std.proofs.Common.{◌≡◌, ℕ, zero, suc, ◌+◌, ◌-◌, ◌%◌, ◌<◌, ◌≤◌, List, [], ◌∷◌, ◌++◌, length, get_or, take, replicate, Some, Option, refl, sym, ◌∙◌, ap, subst, arith}
 use Rattle.std.specs.Prelude.{slice_get}
-use Rattle.std.proofs.lemmas.List.{length-append}
+use Rattle.std.proofs.Math.Nat.{add-mod-mod, mod-add-mod, mod-eq_of_lt}
+use Rattle.std.proofs.lemmas.List.{length-append, take_all}
 use Rattle.resolvo_state.specs.declared.clause_kind.Need.{Need}
 use Rattle.resolvo_state.specs.declared.clause_kind.ClauseKind.{ClauseKind}
 use Rattle.resolvo_state.specs.declared.clause_kind.ClauseKind.TheVariants.{RequiresIf, ForbidMultipleInstances}
 use Rattle.resolvo_state.specs.Kinds.{Kind}
-use Rattle.resolvo_state.specs.StoredKinds.{kind_at_number, need_kind, kind_in, entry_kind, kinds_from, kinds_in, plain_kind, IsPlain, IsWithin, AreWithin, AreBelow, AreStored}
+use Rattle.resolvo_state.specs.StoredKinds.{bit_at, kind_at_number, need_kind, kind_in, entry_kind, kinds_from, kinds_in, digit_kinds, plain_kind, IsPlain, IsWithin, AreWithin, AreBelow, AreStored}
 use Rattle.resolvo_state.proofs.Positions.{get_last}
 
 get_stays : {X : Type 0} (xs more : List X) (i : ℕ) → i < length xs → slice_get (xs ++ more) i ≡ slice_get xs i
@@ -127,21 +128,87 @@ need_stored needs entries places need are =
     let long : length (needs ++ need ∷ []) ≡ length needs + 1 = length-append needs (need ∷ []) in
     entry_stored (length (needs ++ need ∷ [])) entries places (RequiresIf (length needs)) (stored_longer needs (need ∷ []) entries places are) (omega arith)
 
--- an entry that is there serves the next clause too
-at_is_below : {X : Type 0} (xs : List X) (i : ℕ) (x : X) → slice_get xs i ≡ Some x → i < length xs
-at_is_below [] i x at = absurd cc
-at_is_below (y ∷ xs) zero x at = omega arith
-at_is_below (y ∷ xs) (suc i) x at = let rest = at_is_below xs i x at in omega (arith, rest)
+-- ---- an entry that the clauses of a place's digits share
 
-pub place_stored : {N S : Type 0} (count : ℕ) (entries : List (ClauseKind N S)) (places : List ℕ) (p : ℕ) (x : ClauseKind N S) → AreStored count entries places → slice_get entries p ≡ Some x
-    → AreStored count entries (places ++ p ∷ [])
-place_stored count entries places p x are at = record { within = are.within; below = below_push (length entries) (length entries) places p (omega arith) (at_is_below entries p x at) are.below }
+-- the bit of a later one of them
+bit_later : (number count back : ℕ) → count < 4294967296 → bit_at number back ≡ 0 → bit_at (number + count) back ≡ count
+bit_later number count back few is =
+    let later : back + (number + count) ≡ (back + number) + count = omega arith in
+    let none : 0 + count ≡ count = omega arith in
+    add-mod-mod back (number + count) 4294967296
+    ∙ (ap (λ (k : ℕ). k % 4294967296) later
+    ∙ (sym (mod-add-mod (back + number) 4294967296 count)
+    ∙ (ap (λ (k : ℕ). (k + count) % 4294967296) (sym (add-mod-mod back number 4294967296) ∙ is)
+    ∙ (ap (λ (k : ℕ). k % 4294967296) none ∙ mod-eq_of_lt few))))
 
-pub place_pushed : {N S : Type 0} (needs : List (Need S)) (entries : List (ClauseKind N S)) (places : List ℕ) (p : ℕ) (x : ClauseKind N S) → slice_get entries p ≡ Some x
-    → kinds_in needs entries (places ++ p ∷ []) ≡ kinds_in needs entries places ++ kind_in needs (kind_at_number (length places) x) ∷ []
-place_pushed {N} {S} needs entries places p x at =
-    place_added needs entries 0 (length places) places p (omega arith)
-    ∙ ap (λ (e : Option (ClauseKind N S)). kinds_in needs entries places ++ entry_kind needs (length places) e ∷ []) at
+kinds_append : {N S : Type 0} (needs : List (Need S)) (entries : List (ClauseKind N S)) (number last : ℕ) (places more : List ℕ) → last ≡ number + length places
+    → kinds_from needs entries number (places ++ more) ≡ kinds_from needs entries number places ++ kinds_from needs entries last more
+kinds_append needs entries number last [] more is =
+    let same : number ≡ last = omega (arith, is) in
+    ap (λ (n : ℕ). kinds_from needs entries n more) same
+kinds_append {N} {S} needs entries number last (q ∷ places) more is =
+    let next : last ≡ suc number + length places = omega (arith, is) in
+    ap (λ (ks : List (Kind N S)). entry_kind needs number (slice_get entries q) ∷ ks) (kinds_append needs entries (suc number) last places more next)
+
+kinds_shared : {N S : Type 0} (needs : List (Need S)) (entries : List (ClauseKind N S)) (name : N) (s : S) (place back number p from count : ℕ) → slice_get entries p ≡ Some (ForbidMultipleInstances name s place back)
+    → ((at last : ℕ) → at + from ≡ number + last → from ≤ last → last < from + count → bit_at at back ≡ last) → kinds_from needs entries number (replicate count p) ≡ digit_kinds name s place from count
+kinds_shared needs entries name s place back number p from zero here bits = refl
+kinds_shared {N} {S} needs entries name s place back number p from (suc count) here bits =
+    let first : bit_at number back ≡ from = bits number from (omega arith) (omega arith) (omega arith) in
+    ap (λ (e : Option (ClauseKind N S)). entry_kind needs number e ∷ kinds_from needs entries (suc number) (replicate count p)) here
+    ∙ (ap (λ (b : ℕ). Kind.Digit name s place b ∷ kinds_from needs entries (suc number) (replicate count p)) first
+    ∙ ap (λ (ks : List (Kind N S)). Kind.Digit name s place from ∷ ks)
+    (kinds_shared needs entries name s place back (suc number) p (suc from) count here (λ at last e low high. bits at last (omega (arith, e)) (omega (arith, low)) (omega (arith, high)))))
+
+pub digits_pushed : {N S : Type 0} (needs : List (Need S)) (entries : List (ClauseKind N S)) (places : List ℕ) (name : N) (s : S) (place back count : ℕ) → AreBelow (length entries) places → count ≤ 4294967296
+    → bit_at (length places) back ≡ 0
+    → kinds_in needs (entries ++ ForbidMultipleInstances name s place back ∷ []) (places ++ replicate count (length entries)) ≡ kinds_in needs entries places ++ digit_kinds name s place 0 count
+digits_pushed {N} {S} needs entries places name s place back count below few is =
+    kinds_append needs more 0 (length places) places (replicate count (length entries)) (omega arith)
+    ∙ (ap (λ (ks : List (Kind N S)). kinds_in needs more places ++ ks) (kinds_shared needs more name s place back (length places) (length entries) 0 count (get_last entries x) bits)
+    ∙ ap (λ (ks : List (Kind N S)). ks ++ digit_kinds name s place 0 count) (entries_stay needs entries (x ∷ []) 0 places below))
+  where
+    x : ClauseKind N S
+    x = ForbidMultipleInstances name s place back
+
+    more : List (ClauseKind N S)
+    more = entries ++ x ∷ []
+
+    bits : (at last : ℕ) → at + 0 ≡ length places + last → 0 ≤ last → last < 0 + count → bit_at at back ≡ last
+    bits at last e low high =
+        let here : length places + last ≡ at = omega (arith, e) in
+        subst (λ (k : ℕ). bit_at k back ≡ last) here (bit_later (length places) last back (omega (arith, high, few)) is)
+
+below_longer : (few many : ℕ) (places : List ℕ) → few ≤ many → AreBelow few places → AreBelow many places
+below_longer few many [] le below = tt
+below_longer few many (q ∷ places) le (here, rest) = (omega (arith, here), below_longer few many places le rest)
+
+below_more : (few many : ℕ) (places : List ℕ) (p count : ℕ) → few ≤ many → p < many → AreBelow few places → AreBelow many (places ++ replicate count p)
+below_more few many [] p zero le last below = tt
+below_more few many [] p (suc count) le last below = (last, below_more few many [] p count le last tt)
+below_more few many (q ∷ places) p count le last (here, rest) = (omega (arith, here), below_more few many places p count le last rest)
+
+-- an entry is pushed, and no place yet
+pub entry_unused : {N S : Type 0} (count : ℕ) (entries : List (ClauseKind N S)) (places : List ℕ) (x : ClauseKind N S) → AreStored count entries places → IsWithin count x → AreStored count (entries ++ x ∷ []) places
+entry_unused count entries places x are within =
+    let long : length (entries ++ x ∷ []) ≡ length entries + 1 = length-append entries (x ∷ []) in
+    record { within = within_push count entries x are.within within; below = below_longer (length entries) (length (entries ++ x ∷ [])) places (omega arith) are.below }
+
+pub digits_stored : {N S : Type 0} (count : ℕ) (entries : List (ClauseKind N S)) (places : List ℕ) (x : ClauseKind N S) (n : ℕ) → AreStored count entries places → IsWithin count x
+    → AreStored count (entries ++ x ∷ []) (places ++ replicate n (length entries))
+digits_stored count entries places x n are within =
+    let long : length (entries ++ x ∷ []) ≡ length entries + 1 = length-append entries (x ∷ []) in
+    record {
+      within = within_push count entries x are.within within;
+      below = below_more (length entries) (length (entries ++ x ∷ [])) places (length entries) n (omega arith) (omega arith) are.below;
+    }
+
+-- the same place for so many clauses
+pub places_pushed : (xs ys : List ℕ) (long n end last entry : ℕ) → ys ≡ take end xs ++ replicate (end - long) last → long ≡ length xs → end ≡ long + n → last ≡ entry → ys ≡ xs ++ replicate n entry
+places_pushed xs ys long n end last entry is whole to same =
+    let past : length xs ≤ end = omega (arith, whole, to) in
+    let many : end - long ≡ n = omega (arith, to) in
+    is ∙ (ap (λ (zs : List ℕ). zs ++ replicate (end - long) last) (take_all end xs past) ∙ (ap (λ (k : ℕ). xs ++ replicate k last) many ∙ ap (λ (k : ℕ). xs ++ replicate n k) same))
 
 -- the entry at a clause's place is there
 pub below_at : (count : ℕ) (places : List ℕ) (i d : ℕ) → i < length places → AreBelow count places → get_or places i d < count

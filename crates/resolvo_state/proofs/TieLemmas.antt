@@ -115,6 +115,7 @@ all_none name first last c coding = record {
   atoms = refl;
   each = λ i tie h. absurd (nothing i tie h);
   only = λ n a b. absurd (omega arith);
+  count = omega arith;
   same = λ e. refl;
 }
   where
@@ -143,6 +144,10 @@ all_more name ties first last tie a b c all one = record {
         let end : length b.search.clauses ≡ n = omega arith in
         (length ties, tie, get_last ties tie, subst (λ k. IsTieClause name (place_from first last (length ties)) tie c k) end one.added_rule)
   ];
+  count =
+      let more : length c.search.clauses ≡ length b.search.clauses + 1 = one.one in
+      let far : length b.search.clauses ≡ length a.search.clauses + length ties = all.count in
+      omega (arith, length-append ties (tie ∷ []));
   same = λ e. (let long : length (ties ++ tie ∷ []) ≡ 0 = ap length e in let more : length (ties ++ tie ∷ []) ≡ length ties + 1 = length-append ties (tie ∷ []) in absurd (omega arith));
 }
 
@@ -191,6 +196,10 @@ all_both name xs ys first last a b c past all more = record {
     | inl old ↦ let (i, x, at, t) = all.only n low old in (i, x, get_in_prefix xs ys i x at, tie_stays name (place_from first last i) x b c n more.grows old t)
     | inr new ↦ let (j, x, at, t) = more.only n new below in (length xs + j, x, get_behind xs ys j x at, subst (λ k. IsTieClause name k x c n) (later j (length xs + j) refl) t)
   ];
+  count =
+      let first : length b.search.clauses ≡ length a.search.clauses + length xs = all.count in
+      let second : length c.search.clauses ≡ length b.search.clauses + length ys = more.count in
+      omega (arith, length-append xs ys);
   same = λ e. (let (p, q) = both_none xs ys e in more.same q ∙ all.same p);
 }
   where

@@ -23,6 +23,7 @@ use Rattle.resolvo_state.proofs.Positions.{get_in_prefix, get_last, get_push, ge
 use Rattle.resolvo_state.proofs.Origins.{represents_same}
 use Rattle.resolvo_state.proofs.Growth.{grows_same, grows_then, trail_same, trail_then, represents_grow, represents_in_range, rules_grow, below_or_not}
 use Rattle.resolvo_state.proofs.TieLemmas.{tie_rule}
+use Rattle.resolvo_state.proofs.NewTies.{ties_at}
 
 abbrev Tie : Type 0
 Tie = VariableId × VariableId × Bool
@@ -32,12 +33,6 @@ has_ties : (k : ℕ) (x : VariableId) (vs : List VariableId) (i : ℕ) (v : Vari
 has_ties k x [] i v h = absurd cc
 has_ties k x (w ∷ vs) zero v h = let e : w ≡ v = cc in contains_first (x, v, k % 2 == 1) (x, w, k % 2 == 1) (ties (k / 2) x vs) (ap (λ (u : VariableId). let t : Tie = (x, u, k % 2 == 1) in t) e)
 has_ties k x (w ∷ vs) (suc i) v h = contains_later (x, v, digit (k / 2) i) (x, w, k % 2 == 1) (ties (k / 2) x vs) (has_ties (k / 2) x vs i v h)
-
--- the tie at this index, with the digit there
-ties_at : (k : ℕ) (x : VariableId) (vs : List VariableId) (i : ℕ) (tie : Tie) → slice_get (ties k x vs) i ≡ Some tie → (tie.0 ≡ x) × (slice_get vs i ≡ Some tie.1) × (tie.2 ≡ digit k i)
-ties_at k x [] i tie h = absurd cc
-ties_at k x (w ∷ vs) zero tie h = let e : (x, w, k % 2 == 1) ≡ tie = cc in (ap (λ (t : Tie). t.0) (sym e), ap (λ (t : Tie). Some t.1) e, ap (λ (t : Tie). t.2) (sym e))
-ties_at k x (w ∷ vs) (suc i) tie h = ties_at (k / 2) x vs i tie h
 
 -- the tie's variable is at the place, and its helper is a digit of that
 record IsTieAt (xs vs : List VariableId) (place : ℕ) (tie : Tie) : Type 0 where

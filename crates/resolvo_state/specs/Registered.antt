@@ -188,6 +188,10 @@ pub record IsTie {N S : Type 0} (name : N) (atoms : List (ProofAtom N S)) (place
 abbrev pub AreTies : {N S : Type 0} → N → List (ProofAtom N S) → ℕ → ℕ → List (VariableId × VariableId × Bool) → Type 0
 AreTies name atoms first last ties = (i : ℕ) (tie : VariableId × VariableId × Bool) → slice_get ties i ≡ Some tie → IsTie name atoms (place_from first last i) tie
 
+-- the variables represent the digits of the package in order, from the lowest on
+abbrev pub AreDigits : {N S : Type 0} → N → List (ProofAtom N S) → List VariableId → Type 0
+AreDigits name atoms vs = (i : ℕ) (v : VariableId) → slice_get vs i ≡ Some v → Represents atoms v (Bit name i)
+
 -- the clause of this number encodes the tie
 pub record IsTieClause {N S : Type 0} (name : N) (place : ℕ) (tie : VariableId × VariableId × Bool) (c : SolverState N S) (n : ℕ) : Type 0 where
   pub is : IsTie name c.atoms.keys place tie
@@ -203,7 +207,7 @@ pub record AddsTie {N S : Type 0} (name : N) (place : ℕ) (tie : VariableId × 
   pub added_rule : IsTieClause name place tie new (length old.search.clauses)
   pub one : length new.search.clauses ≡ length old.search.clauses + 1
 
--- each tie was added as a clause, and nothing else was
+-- each tie was added as a clause of its own, and nothing else was
 pub record AddsTies {N S : Type 0} (name : N) (ties : List (VariableId × VariableId × Bool)) (first last : ℕ) (old new : SolverState N S) : Type 0 where
   pub coding : IsCoding new
   pub grows : Grows old new
@@ -211,6 +215,7 @@ pub record AddsTies {N S : Type 0} (name : N) (ties : List (VariableId × Variab
   pub atoms : new.atoms ≡ old.atoms
   pub each : (i : ℕ) (tie : VariableId × VariableId × Bool) → slice_get ties i ≡ Some tie → (n : ℕ) × (n < length new.search.clauses) × IsTieClause name (place_from first last i) tie new n
   pub only : (n : ℕ) → length old.search.clauses ≤ n → n < length new.search.clauses → (i : ℕ) × (tie : VariableId × VariableId × Bool) × (slice_get ties i ≡ Some tie) × IsTieClause name (place_from first last i) tie new n
+  pub count : length new.search.clauses ≡ length old.search.clauses + length ties
   pub same : ties ≡ [] → new ≡ old
 
 -- The variable is tracked, behind the others, and no other one was added. Each new clause ties a tracked one to a digit,

@@ -1,6 +1,6 @@
 -- How kinds of clauses are stored. Each clause has the place of an entry, which digits that follow each other share.
 -- A need under a condition lies in a list of its own, by its index.
-use Rattle.std.specs.Prelude.{ℕ, suc, ◌+◌, ◌%◌, ◌<◌, List, [], ◌∷◌, length, slice_get, Option, Some, None}
+use Rattle.std.specs.Prelude.{ℕ, zero, suc, ◌+◌, ◌%◌, ◌<◌, List, [], ◌∷◌, length, slice_get, Option, Some, None}
 use Rattle.resolvo_state.specs.declared.clause_kind.Need.{Need}
 use Rattle.resolvo_state.specs.declared.clause_kind.ClauseKind.{ClauseKind}
 use Rattle.resolvo_state.specs.declared.clause_kind.ClauseKind.TheVariants.{InstallRoot, Requires, RequiresIf, RequiresGate, GateRequires, Constrains, ConstrainsParent, ConstrainsExcluded, Lock, Excluded, ForbidMultipleInstances, AnyOf, AnyMatch, Learnt}
@@ -54,6 +54,11 @@ kinds_from needs entries number (p ∷ places) = entry_kind needs number (slice_
 
 abbrev pub kinds_in : {N S : Type 0} → List (Need S) → List (ClauseKind N S) → List ℕ → List (Kind N S)
 kinds_in needs entries places = kinds_from needs entries 0 places
+
+-- the kinds of so many digits of the solvable's place, from this one on
+abbrev pub digit_kinds : {N S : Type 0} → N → S → ℕ → ℕ → ℕ → List (Kind N S)
+digit_kinds name s place bit zero = []
+digit_kinds name s place bit (suc count) = Kind.Digit name s place bit ∷ digit_kinds name s place (suc bit) count
 
 -- a need that the kind names is one of so many
 abbrev pub IsWithin : {N S : Type 0} → ℕ → ClauseKind N S → Type 0

@@ -1,17 +1,21 @@
 //! Adds a clause that encodes a rule, or one that denies decisions which contradict each other.
-ghost use Rattle.std.specs.Prelude.{◌≡◌, ◌<◌, length, IfOk, IsErrOf, IsSome};
+ghost use Rattle.std.specs.Prelude.{◌≡◌, ◌<◌, ◌≤◌, length, IfOk, OnOk, IsErrOf, IsSome};
 ghost use Rattle.resolvo_pool_core.specs.declared.want.Want.TheVariants.{Ids};
+ghost use Rattle.resolvo_store_core.specs.AtMostOne.{ties};
 ghost use Rattle.resolvo_sat.specs.State.{count_of};
 ghost use Rattle.resolvo_sat.specs.Steps.{AreInRange};
 ghost use Rattle.resolvo_sat.specs.Analysis.{IsDenial};
 ghost use Rattle.resolvo_state.specs.ClauseKinds.{rule_of};
 ghost use Rattle.resolvo_state.specs.StoredKinds.{plain_kind, IsPlain};
-ghost use Rattle.resolvo_state.specs.Kinds.{Needs, Digit};
+ghost use Rattle.resolvo_state.specs.Kinds.{Needs};
+ghost use Rattle.resolvo_state.specs.declared.atom.ProofAtom.TheVariants.{Solvable};
+ghost use Rattle.resolvo_state.specs.Atoms.{Represents};
+ghost use Rattle.resolvo_state.specs.Registered.{AreDigits, AddsTies};
 ghost use Rattle.resolvo_state.specs.SolverState.{IsCoding, AddsRule, AddsDenial, LacksNumber};
 
 use crate::clause_kind::{ClauseKind, Need};
 use crate::solver_state::SolverState;
-use resolvo_pool_core::id::{ClauseId, Exact};
+use resolvo_pool_core::id::{ClauseId, Exact, VariableId};
 use resolvo_pool_core::want::R;
 use resolvo_sat::analyze::FinalConflict;
 use resolvo_store_core::literal::Literal;
@@ -33,37 +37,40 @@ impl<N: Copy + Exact + Hash + Debug, S: Copy + Exact + Hash + Debug> SolverState
         ensures ids { IsErrOf result Ids → length self.old.search.clauses ≡ 4294967295 }
         ensures full { IsErrOf result Ids → LacksNumber self.new }
     {
-        let clause = self.search.add_clause(&mut self.watching, literals, &[])?;
-        self.search
-            .note_rule(&mut self.watching, clause, literals, kind.sets_at_once())?;
+        let sets_at_once = kind.sets_at_once();
+        let clause = self
+            .search
+            .add_rule(&mut self.watching, literals, sets_at_once)?;
         self.kinds.push(kind)?;
         Ok(clause)
     }
 
-    /// Adds a clause that encodes a digit of a solvable's place.
-    pub fn add_digit(
+    /// Adds the clauses that encode the digits of a solvable's place, from the lowest on.
+    pub fn add_digits(
         &mut self,
         name: N,
         solvable: S,
+        variable: VariableId,
         place: u32,
-        bit: u32,
-        literals: &[Literal],
-    ) -> R<ClauseId>
+        digits: &[VariableId],
+    ) -> R<()>
         requires coding { IsCoding self.old }
-        requires some { 0 < length literals.now }
-        requires in_range { AreInRange (count_of self.old.search) literals.now }
+        requires solvable { Represents self.old.atoms.keys variable (Solvable solvable) }
+        requires digits { AreDigits name self.old.atoms.keys digits.now }
+        requires few { length digits.now ≤ 32 }
         // After an answer.
-        ensures added_rule { IfOk result
-            (λ id. AddsRule (Digit name solvable place bit) literals.now id self.old self.new) }
+        ensures encoded { OnOk result (AddsTies name (ties place variable digits.now) place place
+            self.old self.new) }
         // After a refusal.
-        ensures ids { IsErrOf result Ids → length self.old.search.clauses ≡ 4294967295 }
-        ensures full { IsErrOf result Ids → LacksNumber self.new }
+        ensures ids { IsErrOf result Ids → LacksNumber self.new }
     {
-        let clause = self.search.add_clause(&mut self.watching, literals, &[])?;
+        if digits.is_empty() {
+            return Ok(());
+        }
         self.search
-            .note_rule(&mut self.watching, clause, literals, true)?;
-        self.kinds.push_digit(name, solvable, place, bit)?;
-        Ok(clause)
+            .add_ties(&mut self.watching, variable, place, digits)?;
+        self.kinds.push_digits(name, solvable, place, digits.len())?;
+        Ok(())
     }
 
     /// Adds a clause that encodes a need under a condition.
@@ -78,9 +85,7 @@ impl<N: Copy + Exact + Hash + Debug, S: Copy + Exact + Hash + Debug> SolverState
         ensures ids { IsErrOf result Ids → length self.old.search.clauses ≡ 4294967295 }
         ensures full { IsErrOf result Ids → LacksNumber self.new }
     {
-        let clause = self.search.add_clause(&mut self.watching, literals, &[])?;
-        self.search
-            .note_rule(&mut self.watching, clause, literals, false)?;
+        let clause = self.search.add_rule(&mut self.watching, literals, false)?;
         self.kinds.push_need(need)?;
         Ok(clause)
     }

@@ -1,12 +1,10 @@
 //! The kind of each clause, by the clause's number. The model is the list of kinds, and the needs
-//! that some of them name. Digits of one place that follow each other share an entry.
-ghost use Rattle.std.specs.Prelude.{◌≡◌, ℕ, ◌<◌, [], ◌∷◌, ◌++◌, Some, true, length, slice_get, IfOk, IfSome, OnOk, OnErr};
-ghost use Rattle.resolvo_state.specs.StoredKinds.{bit_at, kind_at_number, kind_in, plain_kind, IsPlain, IsWithin};
-ghost use Rattle.resolvo_state.specs.Kinds.{Needs, Digit};
-ghost use Rattle.resolvo_state.specs.declared.clause_kind.ClauseKind.TheVariants.{ForbidMultipleInstances};
+//! that some of them name. The digits of a place share an entry.
+ghost use Rattle.std.specs.Prelude.{◌≡◌, ℕ, ◌<◌, ◌≤◌, [], ◌∷◌, ◌++◌, Some, length, slice_get, IfOk, OnOk, OnErr};
+ghost use Rattle.resolvo_state.specs.StoredKinds.{bit_at, kind_at_number, kind_in, plain_kind, digit_kinds, IsPlain, IsWithin};
+ghost use Rattle.resolvo_state.specs.Kinds.{Needs};
 
 use crate::clause_kind::{ClauseKind, Need};
-use resolvo_pool_core::id::Exact;
 use std::alloc::{AllocError, Global};
 use std::marker::Model;
 
@@ -76,6 +74,36 @@ impl<N: Copy, S: Copy> ClauseKinds<N, S> {
         Ok(())
     }
 
+    /// Adds the kinds of the next clauses, which encode so many digits of a place, from the lowest on.
+    /// They share an entry.
+    pub fn push_digits(
+        &mut self,
+        name: N,
+        solvable: S,
+        place: u32,
+        count: usize,
+    ) -> Result<(), AllocError>
+        requires { count ≤ 4294967296 }
+        ensures items { OnOk result (self.new.items
+            ≡ self.old.items ++ digit_kinds name solvable place 0 count) }
+    {
+        let entries = self.entries.len();
+        let clauses = self.places.len();
+        if usize::MAX - clauses < count {
+            return Err(AllocError);
+        }
+        let last = index_after(entries)?;
+        let bit = bit_back(0, clauses);
+        self.entries.push(ClauseKind::ForbidMultipleInstances {
+            name,
+            solvable,
+            place,
+            bit,
+        })?;
+        self.places.resize(clauses + count, last)?;
+        Ok(())
+    }
+
     /// The kind of a clause.
     pub fn get(&self, number: usize) -> ClauseKind<N, S>
         requires { number < length self.now.items }
@@ -92,34 +120,6 @@ impl<N: Copy, S: Copy> ClauseKinds<N, S> {
         ensures { slice_get self.now.needs index ≡ Some result.now }
     {
         &self.needs[index as usize]
-    }
-}
-
-impl<N: Copy + Exact, S: Copy + Exact> ClauseKinds<N, S> {
-    /// Adds the kind of the next clause, which encodes a digit. The last entry may serve.
-    pub fn push_digit(
-        &mut self,
-        name: N,
-        solvable: S,
-        place: u32,
-        bit: u32,
-    ) -> Result<(), AllocError>
-        ensures items { OnOk result (self.new.items
-            ≡ self.old.items ++ Digit name solvable place bit ∷ []) }
-    {
-        let bit = bit_back(bit, self.places.len());
-        if let Some(last) = last_digit(self.entries.as_slice(), name, solvable, place, bit) {
-            self.places.push(last)?;
-            return Ok(());
-        }
-        let entry = ClauseKind::ForbidMultipleInstances {
-            name,
-            solvable,
-            place,
-            bit,
-        };
-        push_entry(&mut self.places, &mut self.entries, entry)?;
-        Ok(())
     }
 }
 
@@ -144,62 +144,6 @@ fn push_entry<N: Copy, S: Copy>(
             Err(error.into())
         }
     }
-}
-
-/// The place of the last entry, where it is that of this digit.
-fn last_digit<N: Copy + Exact, S: Copy + Exact>(
-    entries: &[ClauseKind<N, S>],
-    name: N,
-    solvable: S,
-    place: u32,
-    bit: u32,
-) -> Option<u32>
-    ensures { IfSome result (λ last. slice_get entries.now last
-        ≡ Some (ForbidMultipleInstances name solvable place bit)) }
-{
-    let count = entries.len();
-    if count == 0 || count > 4_294_967_296 {
-        return None;
-    }
-    let last = count - 1;
-    if is_digit(entries[last], name, solvable, place, bit) {
-        Some(last as u32)
-    } else {
-        None
-    }
-}
-
-/// Whether an entry is that of this digit.
-fn is_digit<N: Copy + Exact, S: Copy + Exact>(
-    entry: ClauseKind<N, S>,
-    name: N,
-    solvable: S,
-    place: u32,
-    bit: u32,
-) -> bool
-    ensures { result ≡ true → entry ≡ ForbidMultipleInstances name solvable place bit }
-{
-    match entry {
-        ClauseKind::ForbidMultipleInstances {
-            name: of,
-            solvable: one,
-            place: at,
-            bit: from,
-        } => {
-            if from != bit || at != place {
-                return false;
-            }
-            are_same(one, solvable) && are_same(of, name)
-        }
-        _ => false,
-    }
-}
-
-/// Whether two values are one value.
-fn are_same<K: Copy + Exact>(one: K, other: K) -> bool
-    ensures { result ≡ true → one ≡ other }
-{
-    one == other
 }
 
 /// The entry of a kind, where it is that of the clause of this number.

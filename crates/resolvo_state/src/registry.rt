@@ -16,7 +16,7 @@ ghost use Rattle.resolvo_state.specs.AtomLaws.{one_member};
 ghost use Rattle.resolvo_state.specs.Atoms.{Represents};
 ghost use Rattle.resolvo_state.specs.SolverState.{IsCoding, LacksNumber};
 ghost use Rattle.resolvo_state.specs.Keys.{AreOnce};
-ghost use Rattle.resolvo_state.specs.Registered.{same_variable, IsNothing, AreTied, IsInTracker, IsTracked, IsQueued, IsRegistered, member, IsMany, MarksMany, Registers, Places, PlacesName, IsTied, Tracks, GivesDigit, IsTie, AreTies, first_of, AddsTie, AddsTies};
+ghost use Rattle.resolvo_state.specs.Registered.{same_variable, IsNothing, AreTied, IsInTracker, IsTracked, IsQueued, IsRegistered, member, IsMany, MarksMany, Registers, Places, PlacesName, IsTied, Tracks, GivesDigit, IsTie, AreTies, AreDigits, first_of, AddsTie, AddsTies};
 
 use crate::atom::ProofAtom;
 use crate::clause_kind::ClauseKind;
@@ -299,6 +299,9 @@ fn add_ties<N: Copy + Exact + Hash + Debug, S: Copy + Exact + Hash + Debug>(
 ) -> R<()>
     requires coding { IsCoding coding.old }
     requires few { length tracker.now.variables < 4294967296 }
+    requires solvable { (s : S) × Represents coding.old.atoms.keys variable (Solvable s) }
+    requires digits { AreDigits name coding.old.atoms.keys tracker.now.helpers }
+    requires few_digits { length tracker.now.helpers ≤ 32 }
     requires ties { AreTies name coding.old.atoms.keys
         (first_of digit (length tracker.now.variables)) (length tracker.now.variables)
         (tie_all tracker.now.variables tracker.now.helpers variable digit) }
@@ -319,7 +322,7 @@ fn add_ties<N: Copy + Exact + Hash + Debug, S: Copy + Exact + Hash + Debug>(
         Some(digit) => {
             tie_earlier(coding, name, variables, digit)?;
             tie_one(coding, name, variable, place, helpers)?;
-            add_new_tie(coding, name, (variable, digit, true), place)?;
+            add_tie(coding, name, (variable, digit, true), place)?;
             Ok(())
         }
     }
@@ -342,13 +345,13 @@ fn tie_earlier<N: Copy + Exact + Hash + Debug, S: Copy + Exact + Hash + Debug>(
 {
     let mut place = 0;
     for variable in variables {
-        add_new_tie(coding, name, (*variable, digit, false), place)?;
+        add_tie(coding, name, (*variable, digit, false), place)?;
         place += 1;
     }
     Ok(())
 }
 
-/// Ties a variable to digits by those of its place, from the lowest on.
+/// Ties a variable to the digits of its place.
 fn tie_one<N: Copy + Exact + Hash + Debug, S: Copy + Exact + Hash + Debug>(
     coding: &mut SolverState<N, S>,
     name: N,
@@ -357,21 +360,20 @@ fn tie_one<N: Copy + Exact + Hash + Debug, S: Copy + Exact + Hash + Debug>(
     digits: &[VariableId],
 ) -> R<()>
     requires coding { IsCoding coding.old }
-    requires ties { AreTies name coding.old.atoms.keys place place
-        (ties place variable digits.now) }
+    requires solvable { (s : S) × Represents coding.old.atoms.keys variable (Solvable s) }
+    requires digits { AreDigits name coding.old.atoms.keys digits.now }
+    requires few { length digits.now ≤ 32 }
     ensures encoded { OnOk result (AddsTies name (ties place variable digits.now) place place
         coding.old coding.new) }
     ensures ids { IsErrOf result Ids → LacksNumber coding.new }
 {
-    let mut rest = place;
-    for digit in digits {
-        add_tie(coding, name, (variable, *digit, rest % 2 == 1), place)?;
-        rest /= 2;
-    }
-    Ok(())
+    let Some(solvable) = coding.solvable(variable) else {
+        unreachable!()
+    };
+    coding.add_digits(name, solvable, variable, place, digits)
 }
 
-/// Adds the clause that ties a solvable at a place to a digit of its package.
+/// Adds the clause that ties a solvable at a place to one digit of its package.
 fn add_tie<N: Copy + Exact + Hash + Debug, S: Copy + Exact + Hash + Debug>(
     coding: &mut SolverState<N, S>,
     name: N,
@@ -385,29 +387,6 @@ fn add_tie<N: Copy + Exact + Hash + Debug, S: Copy + Exact + Hash + Debug>(
 {
     let (variable, digit, value) = tie;
     let literals = [Literal::new(variable, true), Literal::new(digit, !value)];
-    let (Some(solvable), Some(bit)) = (coding.solvable(variable), coding.bit(digit)) else {
-        unreachable!()
-    };
-    coding.add_digit(name, solvable, place, bit, &literals)?;
-    Ok(())
-}
-
-/// Adds the clause that ties a solvable at a place to a new digit of its package. The one before it
-/// is of another solvable, so its kind has an entry of its own.
-fn add_new_tie<N: Copy + Exact + Hash + Debug, S: Copy + Exact + Hash + Debug>(
-    coding: &mut SolverState<N, S>,
-    name: N,
-    tie: Tie,
-    place: u32,
-) -> R<()>
-    requires coding { IsCoding coding.old }
-    requires tie { IsTie name coding.old.atoms.keys place tie }
-    ensures encoded { OnOk result (AddsTie name place tie coding.old coding.new) }
-    ensures ids { IsErrOf result Ids → LacksNumber coding.new }
-{
-    let (variable, digit, value) = tie;
-    let is_denied = !value;
-    let literals = [Literal::new(variable, true), Literal::new(digit, is_denied)];
     let (Some(solvable), Some(bit)) = (coding.solvable(variable), coding.bit(digit)) else {
         unreachable!()
     };

@@ -22,8 +22,8 @@ at_place last i place below is = is ∙ sym (place_first last i (omega arith))
 pub loop-variable-init : goal.loop-variable-init
 loop-variable-init g c = record { encoded = all_none c.args.name 0 (length c.args.variables.now) c.args.coding.now c.requires.coding; place = refl }
 
-pub add_new_tie-requires : goal.add_new_tie-requires
-add_new_tie-requires g c =
+pub add_tie-requires : goal.add_tie-requires
+add_tie-requires g c =
     let inv = c.loop-variable.invariant in
     let i = c.loop-variable.variable-index in
     let xs = c.args.variables.now in
@@ -43,8 +43,8 @@ loop-variable-preserved g c =
     let all = earlier_ties xs c.args.digit in
     let below : i < length all = subst (λ (k : ℕ). i < k) (sym (count xs c.args.digit)) c.loop-variable-test.true in
     record {
-      encoded = all_next c.args.name all 0 (length xs) i no_tie c.loop-variable.place c.args.coding.now c.loop-variable.coding c.add_new_tie.new.coding below (at_place (length xs) i c.loop-variable.place c.loop-variable-test.true inv.place) inv.encoded
-          (subst (λ (t : Tie). AddsTie c.args.name c.loop-variable.place t c.loop-variable.coding c.add_new_tie.new.coding) (sym (earlier_at xs c.args.digit i no_tie (record { 0 = 0 }) c.loop-variable-test.true)) c.in_ok-add_new_tie.ensures.encoded);
+      encoded = all_next c.args.name all 0 (length xs) i no_tie c.loop-variable.place c.args.coding.now c.loop-variable.coding c.add_tie.new.coding below (at_place (length xs) i c.loop-variable.place c.loop-variable-test.true inv.place) inv.encoded
+          (subst (λ (t : Tie). AddsTie c.args.name c.loop-variable.place t c.loop-variable.coding c.add_tie.new.coding) (sym (earlier_at xs c.args.digit i no_tie (record { 0 = 0 }) c.loop-variable-test.true)) c.in_ok-add_tie.ensures.encoded);
       place = ap (λ (k : ℕ). k + 1) inv.place;
     }
 
