@@ -1,14 +1,15 @@
 -- Clauses that lie one after the other in two lists.
-use Rattle.std.proofs.Common.{◌≡◌, ℕ, zero, suc, ◌+◌, ◌-◌, ◌≤◌, ◌<◌, List, [], ◌∷◌, ◌++◌, length, take, drop, get_or, Some, refl, sym, ap, subst, ◌∙◌, arith, Result, Ok, Err, OnErr}
+use Rattle.std.proofs.Common.{◌≡◌, ℕ, zero, suc, ◌+◌, ◌-◌, ◌≤◌, ◌<◌, List, [], ◌∷◌, ◌++◌, length, take, drop, get_or, Some, refl, sym, ap, subst, ◌∙◌, arith}
 use Rattle.std.specs.Prelude.{slice_get}
 use Rattle.std.specs.List.{slice_range}
-use Rattle.std.proofs.lemmas.List.{drop-append-le, take-append-le, length-append, take-append-drop, length-take-le, length-drop, take_all}
+use Rattle.std.proofs.Math.Seq.{take-append_seam}
+use Rattle.std.proofs.lemmas.List.{append-nil, drop-append-le, take-append-le, length-append, length-drop, take_all}
 use Rattle.resolvo_pool_core.specs.declared.id.ClauseId.{ClauseId}
 use Rattle.resolvo_store_core.specs.Signed.{Signed}
 use Rattle.resolvo_sat.specs.declared.clause_arena.ClauseEnd.{ClauseEnd}
 use Rattle.resolvo_sat.specs.Known.{clause_at}
 use Rattle.resolvo_sat.specs.State.{lists}
-use Rattle.resolvo_sat.specs.Clauses.{SatClause, sat_clause, causes_at, start, clause_in, clauses_from, clauses_in, AreRising, AreEnds}
+use Rattle.resolvo_sat.specs.Clauses.{SatClause, sat_clause, causes_at, start, end_of, clause_in, clauses_from, clauses_in, AreRising, AreEnds, Appends}
 
 -- a range within a list is the same where more follows
 range_stays : {X : Type 0} (xs more : List X) (b e : ℕ) → b ≤ e → e ≤ length xs → slice_range (xs ++ more) b e ≡ slice_range xs b e
@@ -32,35 +33,19 @@ begin_from b ends zero = b
 begin_from b [] (suc n) = b
 begin_from b (e ∷ ends) (suc n) = begin_from e ends n
 
--- the part of a list up to a place, and the ranges in it
-range_cut : {X : Type 0} (xs : List X) (m b e : ℕ) → b ≤ e → e ≤ m → m ≤ length xs → slice_range (take m xs) b e ≡ slice_range xs b e
-range_cut {X} xs m b e first last within =
-    sym (range_stays (take m xs) (drop m xs) b e first (omega (arith, last, within, length-take-le m xs within)))
-    ∙ ap (λ (ys : List X). slice_range ys b e) (take-append-drop m xs)
-
 -- no end is before the first one, nor past the lists
 pub within : (l k : ℕ) (b : ClauseEnd) (ends : List ClauseEnd) → AreRising l k b ends → (b.literals ≤ l) × (b.causes ≤ k)
-within l k b [] are = are
+within l k b [] are = (omega (arith, are.0), omega (arith, are.1))
 within l k b (e ∷ ends) are = let rest = within l k e ends are.2 in (omega (arith, are.0, rest.0), omega (arith, are.1, rest.1))
 
--- the last end, and where it is within
-pub last_within : (l k : ℕ) (b : ClauseEnd) (ends : List ClauseEnd) → AreRising l k b ends → ((begin_from b ends (length ends)).literals ≤ l) × ((begin_from b ends (length ends)).causes ≤ k)
-last_within l k b [] are = are
-last_within l k b (e ∷ ends) are = last_within l k e ends are.2
+-- the last end is where the lists end
+last_is : (l k : ℕ) (b : ClauseEnd) (ends : List ClauseEnd) → AreRising l k b ends → ((begin_from b ends (length ends)).literals ≡ l) × ((begin_from b ends (length ends)).causes ≡ k)
+last_is l k b [] are = are
+last_is l k b (e ∷ ends) are = last_is l k e ends are.2
 
--- the ends rise up to the last one
-pub rising_to_last : (l k : ℕ) (b : ClauseEnd) (ends : List ClauseEnd) → AreRising l k b ends → AreRising (begin_from b ends (length ends)).literals (begin_from b ends (length ends)).causes b ends
-rising_to_last l k b [] are = (omega arith, omega arith)
-rising_to_last l k b (e ∷ ends) are = (are.0, are.1, rising_to_last l k e ends are.2)
-
--- they rise within longer lists too
-pub rising_longer : (l k m n : ℕ) (b : ClauseEnd) (ends : List ClauseEnd) → AreRising l k b ends → l ≤ m → k ≤ n → AreRising m n b ends
-rising_longer l k m n b [] are more others = (omega (arith, are.0, more), omega (arith, are.1, others))
-rising_longer l k m n b (e ∷ ends) are more others = (are.0, are.1, rising_longer l k m n e ends are.2 more others)
-
--- and so does one more, which is at the lists' ends
-pub rising_pushed : (l k : ℕ) (b p : ClauseEnd) (ends : List ClauseEnd) → AreRising l k b ends → l ≤ p.literals → k ≤ p.causes → AreRising p.literals p.causes b (ends ++ p ∷ [])
-rising_pushed l k b p [] are more others = (omega (arith, are.0, more), omega (arith, are.1, others), (omega arith, omega arith))
+-- one end more rises too, if it is past the others
+rising_pushed : (l k : ℕ) (b p : ClauseEnd) (ends : List ClauseEnd) → AreRising l k b ends → l ≤ p.literals → k ≤ p.causes → AreRising p.literals p.causes b (ends ++ p ∷ [])
+rising_pushed l k b p [] are more others = (omega (arith, are.0, more), omega (arith, are.1, others), (refl, refl))
 rising_pushed l k b p (e ∷ ends) are more others = (are.0, are.1, rising_pushed l k e p ends are.2 more others)
 
 pub clauses_count : (ls : List Signed) (cs : List ClauseId) (b : ClauseEnd) (ends : List ClauseEnd) → length (clauses_from ls cs b ends) ≡ length ends
@@ -83,17 +68,6 @@ clauses_stay ls more cs others b (e ∷ ends) are =
     clause_same (ls ++ more) ls (cs ++ others) cs b e (range_stays ls more b.literals e.literals are.0 inside.0) (range_stays cs others b.causes e.causes are.1 inside.1) in
     ap (λ (c : SatClause). c ∷ clauses_from (ls ++ more) (cs ++ others) e ends) first
     ∙ ap (λ (rest : List SatClause). clause_in ls cs b e ∷ rest) (clauses_stay ls more cs others e ends are.2)
-
--- they are the same where the lists are cut behind the last end
-pub clauses_cut : (ls : List Signed) (cs : List ClauseId) (m n : ℕ) (b : ClauseEnd) (ends : List ClauseEnd) → AreRising m n b ends → m ≤ length ls → n ≤ length cs
-    → clauses_from (take m ls) (take n cs) b ends ≡ clauses_from ls cs b ends
-clauses_cut ls cs m n b [] are few some = refl
-clauses_cut ls cs m n b (e ∷ ends) are few some =
-    let inside = within m n e ends are.2 in
-    let first : clause_in (take m ls) (take n cs) b e ≡ clause_in ls cs b e =
-    clause_same (take m ls) ls (take n cs) cs b e (range_cut ls m b.literals e.literals are.0 inside.0 few) (range_cut cs n b.causes e.causes are.1 inside.1 some) in
-    ap (λ (c : SatClause). c ∷ clauses_from (take m ls) (take n cs) e ends) first
-    ∙ ap (λ (rest : List SatClause). clause_in ls cs b e ∷ rest) (clauses_cut ls cs m n e ends are.2 few some)
 
 -- the clause of a number, between its ends
 pub literals_in : (ls : List Signed) (cs : List ClauseId) (b : ClauseEnd) (ends : List ClauseEnd) (n : ℕ) (e : ClauseEnd) → slice_get ends n ≡ Some e
@@ -149,69 +123,36 @@ clause_pushed ls more cs others ends p are begins to from until =
     ∙ ap (λ (c : SatClause). clauses_in (ls ++ more) (cs ++ others) ends ++ c ∷ []) last
     ∙ ap (λ (rest : List SatClause). rest ++ sat_clause more others ∷ []) (clauses_stay ls more cs others start ends are)
 
--- the lists were cut at the last end, and these literals and causes follow
-pub record Follow (ls ls' more : List Signed) (cs cs' others : List ClauseId) (ends : List ClauseEnd) (b : ClauseEnd) : Type 0 where
-  pub are : AreEnds (length ls) (length cs) ends
-  pub last : b ≡ begin_from start ends (length ends)
-  pub literals : ls' ≡ take b.literals ls ++ more
-  pub causes : cs' ≡ take b.causes cs ++ others
+-- ---- one clause more
 
--- the cut lists' lengths
-cut_lengths : (ls ls' more : List Signed) (cs cs' others : List ClauseId) (ends : List ClauseEnd) (b : ClauseEnd) → Follow ls ls' more cs cs' others ends b
-    → (b.literals ≤ length ls) × (b.causes ≤ length cs) × (length (take b.literals ls) ≡ b.literals) × (length (take b.causes cs) ≡ b.causes)
-    × (length ls' ≡ b.literals + length more) × (length cs' ≡ b.causes + length others) × AreRising b.literals b.causes start ends
-cut_lengths ls ls' more cs cs' others ends b f =
-    let within_lists = last_within (length ls) (length cs) start ends f.are.rising in
-    let l : b.literals ≤ length ls = subst (λ (r : ClauseEnd). r.literals ≤ length ls) (sym f.last) within_lists.0 in
-    let k : b.causes ≤ length cs = subst (λ (r : ClauseEnd). r.causes ≤ length cs) (sym f.last) within_lists.1 in
-    let t : length (take b.literals ls) ≡ b.literals = length-take-le b.literals ls l in
-    let u : length (take b.causes cs) ≡ b.causes = length-take-le b.causes cs k in (
-      l,
-      k,
-      t,
-      u,
-      ap length f.literals ∙ length-append (take b.literals ls) more ∙ ap (λ (n : ℕ). n + length more) t,
-      ap length f.causes ∙ length-append (take b.causes cs) others ∙ ap (λ (n : ℕ). n + length others) u,
-      subst (λ (r : ClauseEnd). AreRising r.literals r.causes start ends) (sym f.last) (rising_to_last (length ls) (length cs) start ends f.are.rising),
-    )
-
--- the clauses are the same, and lie within the new lists
-pub ends_kept : (ls ls' more : List Signed) (cs cs' others : List ClauseId) (ends : List ClauseEnd) (b : ClauseEnd) → Follow ls ls' more cs cs' others ends b → AreEnds (length ls') (length cs') ends
-ends_kept ls ls' more cs cs' others ends b f =
-    let (l, k, t, u, to, until, are) = cut_lengths ls ls' more cs cs' others ends b f in
-    record { few = f.are.few; rising = rising_longer b.literals b.causes (length ls') (length cs') start ends are (omega (arith, to)) (omega (arith, until)) }
-
-pub clauses_kept : (ls ls' more : List Signed) (cs cs' others : List ClauseId) (ends : List ClauseEnd) (b : ClauseEnd) → Follow ls ls' more cs cs' others ends b → clauses_in ls' cs' ends ≡ clauses_in ls cs ends
-clauses_kept ls ls' more cs cs' others ends b f =
-    let (l, k, t, u, to, until, are) = cut_lengths ls ls' more cs cs' others ends b f in
-    ap (λ (xs : List Signed). clauses_in xs cs' ends) f.literals
-    ∙ ap (λ (xs : List ClauseId). clauses_in (take b.literals ls ++ more) xs ends) f.causes
-    ∙ clauses_stay (take b.literals ls) more (take b.causes cs) others start ends (rising_longer b.literals b.causes _ _ start ends are (omega (arith, t)) (omega (arith, u)))
-    ∙ clauses_cut ls cs b.literals b.causes start ends are l k
-
--- one clause more
-pub ends_pushed : (ls ls' more : List Signed) (cs cs' others : List ClauseId) (ends : List ClauseEnd) (b p : ClauseEnd) → Follow ls ls' more cs cs' others ends b
-    → length ends < 4294967295 → p.literals ≡ length ls' → p.causes ≡ length cs' → AreEnds (length ls') (length cs') (ends ++ p ∷ [])
-ends_pushed ls ls' more cs cs' others ends b p f few literals causes =
-    let (l, k, t, u, to, until, are) = cut_lengths ls ls' more cs cs' others ends b f in
-    record {
+pub ends_pushed : (more : List Signed) (others : List ClauseId) (ls ms : List Signed) (cs ds : List ClauseId) (ends new_ends : List ClauseEnd) → AreEnds (length ls) (length cs) ends → length ends < 4294967295
+    → Appends more others ls ms cs ds ends new_ends → AreEnds (length ms) (length ds) new_ends
+ends_pushed more others ls ms cs ds ends new_ends are few a =
+    let p : ClauseEnd = end_of (length ms) (length ds) in
+    let to : length ms ≡ length ls + length more = ap length a.literals ∙ length-append ls more in
+    let until : length ds ≡ length cs + length others = ap length a.causes ∙ length-append cs others in
+    subst (AreEnds (length ms) (length ds)) (sym a.last) (record {
       few = omega (arith, few, length-append ends (p ∷ []));
-      rising = rising_longer p.literals p.causes (length ls') (length cs') start (ends ++ p ∷ [])
-          (rising_pushed b.literals b.causes start p ends are (omega (arith, to, literals)) (omega (arith, until, causes))) (omega (arith, literals)) (omega (arith, causes));
-    }
+      rising = rising_pushed (length ls) (length cs) start p ends are.rising (omega (arith, to)) (omega (arith, until));
+    })
 
-pub clauses_pushed : (ls ls' more : List Signed) (cs cs' others : List ClauseId) (ends : List ClauseEnd) (b p : ClauseEnd) → Follow ls ls' more cs cs' others ends b
-    → p.literals ≡ length ls' → p.causes ≡ length cs' → clauses_in ls' cs' (ends ++ p ∷ []) ≡ clauses_in ls cs ends ++ sat_clause more others ∷ []
-clauses_pushed ls ls' more cs cs' others ends b p f literals causes =
-    let (l, k, t, u, to, until, are) = cut_lengths ls ls' more cs cs' others ends b f in
-    let begins : (begin_from start ends (length ends)).literals ≡ length (take b.literals ls) = ap (λ (r : ClauseEnd). r.literals) (sym f.last) ∙ sym t in
-    let from : (begin_from start ends (length ends)).causes ≡ length (take b.causes cs) = ap (λ (r : ClauseEnd). r.causes) (sym f.last) ∙ sym u in
-    ap (λ (xs : List Signed). clauses_in xs cs' (ends ++ p ∷ [])) f.literals
-    ∙ ap (λ (xs : List ClauseId). clauses_in (take b.literals ls ++ more) xs (ends ++ p ∷ [])) f.causes
-    ∙ clause_pushed (take b.literals ls) more (take b.causes cs) others ends p (rising_longer b.literals b.causes _ _ start ends are (omega (arith, t)) (omega (arith, u)))
-    begins (literals ∙ to ∙ ap (λ (n : ℕ). n + length more) (sym t)) from (causes ∙ until ∙ ap (λ (n : ℕ). n + length others) (sym u))
-    ∙ ap (λ (rest : List SatClause). rest ++ sat_clause more others ∷ []) (clauses_cut ls cs b.literals b.causes start ends are l k)
+pub clauses_pushed : (more : List Signed) (others : List ClauseId) (ls ms : List Signed) (cs ds : List ClauseId) (ends new_ends : List ClauseEnd) → AreEnds (length ls) (length cs) ends → Appends more others ls ms cs ds ends new_ends
+    → clauses_in ms ds new_ends ≡ clauses_in ls cs ends ++ sat_clause more others ∷ []
+clauses_pushed more others ls ms cs ds ends new_ends are a =
+    let p : ClauseEnd = end_of (length ms) (length ds) in
+    let to : length ms ≡ length ls + length more = ap length a.literals ∙ length-append ls more in
+    let until : length ds ≡ length cs + length others = ap length a.causes ∙ length-append cs others in
+    let last = last_is (length ls) (length cs) start ends are.rising in
+    ap (clauses_in ms ds) a.last
+    ∙ (ap (λ (xs : List Signed). clauses_in xs ds (ends ++ p ∷ [])) a.literals
+    ∙ (ap (λ (xs : List ClauseId). clauses_in (ls ++ more) xs (ends ++ p ∷ [])) a.causes
+    ∙ clause_pushed ls more cs others ends p are.rising last.0 to last.1 until))
 
-pub on_err : {T E : Type 0} (r : Result T E) (P : Type 0) → P → OnErr r P
-on_err (Ok x) P p = tt
-on_err (Err e) P p = p
+-- a rule of two literals has no causes
+pub appends_rule : (more ls ms : List Signed) (cs : List ClauseId) (ends new_ends : List ClauseEnd) → ms ≡ ls ++ more → new_ends ≡ ends ++ end_of (length ms) (length cs) ∷ [] → Appends more [] ls ms cs cs ends new_ends
+appends_rule more ls ms cs ends new_ends literals at = record { literals = literals; causes = sym (append-nil cs); last = at }
+
+-- what was appended is taken away again
+pub taken_back : {X : Type 0} (xs more now cut : List X) (n : ℕ) → n ≡ length xs → now ≡ xs ++ more → cut ≡ take n now → cut ≡ xs
+taken_back {X} xs more now cut n at is taken =
+    taken ∙ (ap (λ (ys : List X). take n ys) is ∙ (ap (λ (k : ℕ). take k (xs ++ more)) at ∙ take-append_seam xs more))

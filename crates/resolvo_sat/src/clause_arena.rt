@@ -2,7 +2,7 @@
 //! causes. The model is the list of clauses, in which a clause's position is its number.
 ghost use Rattle.std.specs.Prelude.{◌≡◌, ◌<◌, ◌≤◌, ◌-◌, [], ◌∷◌, ◌++◌, if◌then◌else◌, is_ok, IfOk, OnOk, OnErr, IsErrOf, IsOkUnless, length, slice_index_or};
 ghost use Rattle.resolvo_pool_core.specs.declared.want.Want.TheVariants.{Ids, Memory};
-ghost use Rattle.resolvo_sat.specs.Clauses.{sat_clause, causes_at, start};
+ghost use Rattle.resolvo_sat.specs.Clauses.{sat_clause, causes_at, start, end_of, Appends};
 ghost use Rattle.resolvo_sat.specs.Known.{clause_at};
 ghost use Rattle.resolvo_sat.specs.State.{lists};
 
@@ -13,7 +13,7 @@ use std::alloc::{AllocError, Global};
 use std::marker::Model;
 
 /// Where the literals and the causes of a clause end. They begin where those of the clause before it
-/// end.
+/// end, and the last ones end where the lists do.
 #[derive(Clone, Copy, Debug)]
 pub struct ClauseEnd {
     pub literals: u32,
@@ -60,7 +60,6 @@ impl ClauseArena {
     }
 
     /// Adds a clause under a new number.
-    #[inline(always)]
     pub fn push(&mut self, literals: &[Literal], causes: &[ClauseId]) -> R<ClauseId>
         ensures id { IfOk result (λ id. id.0 ≡ length self.old) }
         ensures put { OnOk result (self.new ≡ self.old ++ sat_clause literals.now causes.now ∷ []) }
@@ -68,14 +67,13 @@ impl ClauseArena {
         ensures ids { IsErrOf result Ids → length self.old ≡ 4294967295 }
     {
         let number = next_index(self.ends.len())?;
-        let begin = begin_of(&self.ends, number);
-        // What a refused call left behind is dropped.
-        self.literals.truncate(begin.literals as usize);
-        self.causes.truncate(begin.causes as usize);
-        append(&mut self.literals, literals)?;
-        append(&mut self.causes, causes)?;
-        let end = end_at(self.literals.len(), self.causes.len())?;
-        self.ends.push(end)?;
+        append(
+            &mut self.literals,
+            &mut self.causes,
+            &mut self.ends,
+            literals,
+            causes,
+        )?;
         Ok(ClauseId(number as u32))
     }
 
@@ -88,7 +86,10 @@ impl ClauseArena {
         ensures err { OnErr result (self.new ≡ self.old) }
         ensures ids { IsErrOf result Ids → length self.old ≡ 4294967295 }
     {
-        self.push(&[first, second], &[])
+        let number = next_index(self.ends.len())?;
+        let causes = self.causes.len();
+        append_pair(&mut self.literals, &mut self.ends, causes, first, second)?;
+        Ok(ClauseId(number as u32))
     }
 
     /// The literals of the clause of a number.
@@ -112,24 +113,91 @@ impl ClauseArena {
     }
 }
 
-/// Appends items. Most clauses have no causes and two literals, so these are the short ways.
-#[inline(always)]
-fn append<T: Copy>(items: &mut Vec<T>, more: &[T]) -> Result<(), AllocError>
-    ensures items { items.new.items
-        ≡ (if is_ok result then items.old.items ++ more.now else items.old.items) }
+/// Appends a clause's literals, its causes, and where they end; or nothing.
+fn append(
+    literals: &mut Vec<Literal>,
+    causes: &mut Vec<ClauseId>,
+    ends: &mut Vec<ClauseEnd>,
+    more: &[Literal],
+    others: &[ClauseId],
+) -> R<()>
+    ensures appended { OnOk result (Appends more.now others.now literals.old.items
+        literals.new.items causes.old.items causes.new.items ends.old.items ends.new.items) }
+    ensures err_literals { OnErr result (literals.new.items ≡ literals.old.items) }
+    ensures err_causes { OnErr result (causes.new.items ≡ causes.old.items) }
+    ensures err_ends { OnErr result (ends.new.items ≡ ends.old.items) }
+    ensures refusal { IsOkUnless result Memory }
 {
-    if more.is_empty() {
-        return Ok(());
+    let begin = literals.len();
+    literals.extend_from_slice(more)?;
+    let end = literals.len();
+    match append_causes(causes, ends, end, others) {
+        Ok(()) => Ok(()),
+        Err(want) => {
+            literals.truncate(begin);
+            Err(want)
+        }
     }
-    if let [first, second] = more {
-        return append_two(items, *first, *second);
-    }
-    items.extend_from_slice(more)
 }
 
-/// Appends two items, or none.
+/// Appends a clause's causes, and where it ends in lists of which the one is so long; or nothing.
+fn append_causes(
+    causes: &mut Vec<ClauseId>,
+    ends: &mut Vec<ClauseEnd>,
+    literals: usize,
+    others: &[ClauseId],
+) -> R<()>
+    ensures causes { OnOk result (causes.new.items ≡ causes.old.items ++ others.now) }
+    ensures ends { OnOk result
+        (ends.new.items ≡ ends.old.items ++ end_of literals (length causes.new.items) ∷ []) }
+    ensures err_causes { OnErr result (causes.new.items ≡ causes.old.items) }
+    ensures err_ends { OnErr result (ends.new.items ≡ ends.old.items) }
+    ensures refusal { IsOkUnless result Memory }
+{
+    let begin = causes.len();
+    causes.extend_from_slice(others)?;
+    let end = causes.len();
+    match push_end(ends, literals, end) {
+        Ok(()) => Ok(()),
+        Err(want) => {
+            causes.truncate(begin);
+            Err(want)
+        }
+    }
+}
+
+/// Appends a rule's two literals, and where it ends beside so many causes; or nothing.
 #[inline(always)]
-fn append_two<T: Copy>(items: &mut Vec<T>, first: T, second: T) -> Result<(), AllocError>
+fn append_pair(
+    literals: &mut Vec<Literal>,
+    ends: &mut Vec<ClauseEnd>,
+    causes: usize,
+    first: Literal,
+    second: Literal,
+) -> R<()>
+    ensures literals { OnOk result
+        (literals.new.items ≡ literals.old.items ++ first ∷ second ∷ []) }
+    ensures ends { OnOk result
+        (ends.new.items ≡ ends.old.items ++ end_of (length literals.new.items) causes ∷ []) }
+    ensures err_literals { OnErr result (literals.new.items ≡ literals.old.items) }
+    ensures err_ends { OnErr result (ends.new.items ≡ ends.old.items) }
+    ensures refusal { IsOkUnless result Memory }
+{
+    let begin = literals.len();
+    append_two(literals, first, second)?;
+    let end = literals.len();
+    match push_end(ends, end, causes) {
+        Ok(()) => Ok(()),
+        Err(want) => {
+            literals.truncate(begin);
+            Err(want)
+        }
+    }
+}
+
+/// Appends two literals, or none.
+#[inline(always)]
+fn append_two(items: &mut Vec<Literal>, first: Literal, second: Literal) -> Result<(), AllocError>
     ensures items { items.new.items
         ≡ (if is_ok result then items.old.items ++ first ∷ second ∷ [] else items.old.items) }
 {
@@ -141,6 +209,24 @@ fn append_two<T: Copy>(items: &mut Vec<T>, first: T, second: T) -> Result<(), Al
             Err(error.into())
         }
     }
+}
+
+/// Appends where a clause ends. Longer lists are refused as for want of memory.
+#[inline(always)]
+fn push_end(ends: &mut Vec<ClauseEnd>, literals: usize, causes: usize) -> R<()>
+    ensures end { OnOk result
+        (ends.new.items ≡ ends.old.items ++ end_of literals causes ∷ []) }
+    ensures err { OnErr result (ends.new.items ≡ ends.old.items) }
+    ensures refusal { IsOkUnless result Memory }
+{
+    if literals > 4_294_967_295 || causes > 4_294_967_295 {
+        return Err(Want::Memory);
+    }
+    ends.push(ClauseEnd {
+        literals: literals as u32,
+        causes: causes as u32,
+    })?;
+    Ok(())
 }
 
 /// Where the literals and the causes of the clause of a number begin.
@@ -157,19 +243,4 @@ fn begin_of(ends: &[ClauseEnd], number: usize) -> ClauseEnd
     } else {
         ends[number - 1]
     }
-}
-
-/// The end of a clause in lists of these lengths. Longer lists are refused as for want of memory.
-fn end_at(literals: usize, causes: usize) -> R<ClauseEnd>
-    ensures literals { IfOk result (λ end. end.literals ≡ literals) }
-    ensures causes { IfOk result (λ end. end.causes ≡ causes) }
-    ensures refusal { IsOkUnless result Memory }
-{
-    if literals > 4_294_967_295 || causes > 4_294_967_295 {
-        return Err(Want::Memory);
-    }
-    Ok(ClauseEnd {
-        literals: literals as u32,
-        causes: causes as u32,
-    })
 }
