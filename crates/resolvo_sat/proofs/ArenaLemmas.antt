@@ -2,7 +2,6 @@
 use Rattle.std.proofs.Common.{◌≡◌, ℕ, zero, suc, ◌+◌, ◌-◌, ◌≤◌, ◌<◌, List, [], ◌∷◌, ◌++◌, length, take, drop, get_or, Some, refl, sym, ap, subst, ◌∙◌, arith}
 use Rattle.std.specs.Prelude.{slice_get}
 use Rattle.std.specs.List.{slice_range}
-use Rattle.std.proofs.Math.Seq.{take-append_seam}
 use Rattle.std.proofs.lemmas.List.{append-nil, drop-append-le, take-append-le, length-append, length-drop, take_all}
 use Rattle.resolvo_pool_core.specs.declared.id.ClauseId.{ClauseId}
 use Rattle.resolvo_store_core.specs.Signed.{Signed}
@@ -151,8 +150,3 @@ clauses_pushed more others ls ms cs ds ends new_ends are a =
 -- a rule of two literals has no causes
 pub appends_rule : (more ls ms : List Signed) (cs : List ClauseId) (ends new_ends : List ClauseEnd) → ms ≡ ls ++ more → new_ends ≡ ends ++ end_of (length ms) (length cs) ∷ [] → Appends more [] ls ms cs cs ends new_ends
 appends_rule more ls ms cs ends new_ends literals at = record { literals = literals; causes = sym (append-nil cs); last = at }
-
--- what was appended is taken away again
-pub taken_back : {X : Type 0} (xs more now cut : List X) (n : ℕ) → n ≡ length xs → now ≡ xs ++ more → cut ≡ take n now → cut ≡ xs
-taken_back {X} xs more now cut n at is taken =
-    taken ∙ (ap (λ (ys : List X). take n ys) is ∙ (ap (λ (k : ℕ). take k (xs ++ more)) at ∙ take-append_seam xs more))

@@ -9,7 +9,7 @@ use Rattle.resolvo_sat.specs.Entries.{made_true, literal_of, before, top_level, 
 use Rattle.resolvo_sat.specs.State.{history, clauses_of, lists, IsState}
 use Rattle.resolvo_sat.specs.Steps.{Sets, SameBut, KeepsChoices, forced_entry}
 use Rattle.resolvo_sat.specs.Propagation.{Extends}
-use Rattle.resolvo_sat.proofs.Literals.{has_here, has_right}
+use Rattle.resolvo_sat.proofs.Literals.{has_right}
 use Rattle.resolvo_sat.proofs.StepLemmas.{reverse_push}
 
 -- a forced entry is no choice
@@ -29,9 +29,6 @@ set_pushed s t c l set = ap reverse set.pushed ∙ reverse_push s.tracker.trail 
 
 pub set_extends : (s t : SatState) (c : ClauseId) (l : Signed) → Sets c l s t → Extends s t
 set_extends s t c l set = record { state = set.state; same = set.same; more = forced_entry c l (history s) ∷ []; added = set.pushed; choices = forced_keeps c l (history s) (history t) (set_pushed s t c l set); guard = let e : t.guard_level ≡ s.guard_level = set.guard in omega arith }
-
-pub set_true : (s t : SatState) (c : ClauseId) (l : Signed) → Sets c l s t → has (made_true (history t)) l ≡ true
-set_true s t c l set = subst (λ (h : List Entry). has (made_true h) l ≡ true) (sym (set_pushed s t c l set)) (has_here l (made_true (history s)) l refl)
 
 same_itself : (s : SatState) → SameBut s s
 same_itself s = record { variables = refl; base_level = refl; clauses = refl; seen = λ entries h. h }

@@ -49,8 +49,7 @@ pub struct WatchLists {
     /// The clauses that were added since the last propagation, while one of the literals that they
     /// watch was false.
     pub pending: Vec<ClauseId>,
-    /// The place on the trail at which each variable was last seen, or is to be. No proof rests on it
-    /// either.
+    /// The place on the trail at which each variable was last seen, or is to be. No proof rests on it.
     pub places: Vec<u32>,
     /// How many of each clause's first literals are false at the first level, as far as it is known.
     /// A search for a replacement watch looks at them last. No proof rests on it either.
