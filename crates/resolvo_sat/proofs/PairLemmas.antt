@@ -57,7 +57,7 @@ tie_within x digits i p b o s variables low each below first second =
 -- ---- clauses were added one after another
 
 adds_nothing : (s : SatState) (v : WatchLists) → IsReady s v → AreCovered s v → AddsClauses [] s s v
-adds_nothing s v ready covers = record { ready = ready; covered = covers; variables = refl; base_level = refl; tracker = refl; added = sym (append-nil s.clauses) }
+adds_nothing s v ready covers = record { ready = ready; covered = covers; variables = refl; base_level = refl; tracker = refl; qhead = refl; guard = refl; added = sym (append-nil s.clauses) }
 
 adds_more : (cs : List SatClause) (c : SatClause) (id : ClauseId) (s t : SatState) (v : WatchLists) (u : SatState) (w : WatchLists) → AddsClauses cs s t v → AddsClause c id t v u w → AddsClauses (cs ++ c ∷ []) s u w
 adds_more cs c id s t v u w all one = record {
@@ -66,6 +66,8 @@ adds_more cs c id s t v u w all one = record {
   variables = one.adds.variables ∙ all.variables;
   base_level = one.adds.base_level ∙ all.base_level;
   tracker = one.adds.tracker ∙ all.tracker;
+  qhead = one.adds.qhead ∙ all.qhead;
+  guard = one.adds.guard ∙ all.guard;
   added = one.adds.added ∙ (ap (λ (xs : List SatClause). xs ++ c ∷ []) all.added ∙ append_assoc s.clauses cs (c ∷ []));
 }
 

@@ -111,6 +111,8 @@ pub record AddsClauses (cs : List SatClause) (old new : SatState) (w : WatchList
   pub variables : new.variables ≡ old.variables
   pub base_level : new.base_level ≡ old.base_level
   pub tracker : new.tracker ≡ old.tracker
+  pub qhead : new.qhead ≡ old.qhead
+  pub guard : new.guard_level ≡ old.guard_level
   pub added : new.clauses ≡ old.clauses ++ cs
 
 -- The search jumped back to the backjump level, the learnt clause was added, and its asserting literal was assigned.
