@@ -1,10 +1,9 @@
 -- Clauses with their causes (antecedents), and how they lie one after the other in two lists.
-use Rattle.std.specs.Prelude.{◌≡◌, ℕ, zero, suc, ◌≤◌, List, [], ◌∷◌, ◌++◌, length}
+use Rattle.std.specs.Prelude.{◌≡◌, ℕ, zero, suc, ◌<◌, ◌≤◌, ◌==◌, cond, List, [], ◌∷◌, length, slice_index_or, Option, Some, None}
 use Rattle.std.specs.List.{slice_range}
 use Rattle.resolvo_pool_core.specs.declared.id.ClauseId.{ClauseId}
 use Rattle.resolvo_store_core.specs.Signed.{Signed}
 use Rattle.resolvo_store_core.specs.declared.watched_literals.WatchedLiterals.{WatchedLiterals}
-use Rattle.resolvo_sat.specs.declared.clause_arena.ClauseEnd.{ClauseEnd}
 
 -- A clause: one of its literals is true. Where it has causes, it follows from these.
 pub record SatClause : Type 0 where
@@ -24,37 +23,43 @@ causes_at [] n = []
 causes_at (c ∷ cs) zero = c.causes
 causes_at (c ∷ cs) (suc n) = causes_at cs n
 
--- where the first clause begins
-abbrev pub start : ClauseEnd
-start = record { literals = 0; causes = 0 }
+-- the causes of the clause of this number, or none: the clauses that have some, and where their causes end; the first of these begin here
+abbrev pub causes_of : List ClauseId → ℕ → List ℕ → List ℕ → ℕ → List ClauseId
+causes_of causes b [] ends n = []
+causes_of causes b (c ∷ caused) [] n = []
+causes_of causes b (c ∷ caused) (e ∷ ends) n = cond (c == n) (slice_range causes b e) (causes_of causes e caused ends n)
 
-abbrev pub end_of : ℕ → ℕ → ClauseEnd
-end_of literals causes = record { literals = literals; causes = causes }
+-- the place of the number among these; or it is none of them
+abbrev pub IsPlaceOf : List ℕ → ℕ → Option ℕ → Type 0
+IsPlaceOf caused n None = (i : ℕ) → i < length caused → slice_index_or caused i 0 ≡ n → ⊥
+IsPlaceOf caused n (Some i) = (i < length caused) × (slice_index_or caused i 0 ≡ n)
 
--- the clause that lies between two ends
-abbrev pub clause_in : List Signed → List ClauseId → ClauseEnd → ClauseEnd → SatClause
-clause_in literals causes b e = sat_clause (slice_range literals b.literals e.literals) (slice_range causes b.causes e.causes)
+-- the clauses from this number on, with these causes, whose literals end so; the first of these begin here
+abbrev pub clauses_from : (ℕ → List ClauseId) → List Signed → ℕ → ℕ → List ℕ → List SatClause
+clauses_from causes literals n b [] = []
+clauses_from causes literals n b (e ∷ ends) = sat_clause (slice_range literals b e) (causes n) ∷ clauses_from causes literals (suc n) e ends
 
--- the clauses of these ends, the first one beginning here
-abbrev pub clauses_from : List Signed → List ClauseId → ClauseEnd → List ClauseEnd → List SatClause
-clauses_from literals causes b [] = []
-clauses_from literals causes b (e ∷ ends) = clause_in literals causes b e ∷ clauses_from literals causes e ends
+abbrev pub clauses_in : List Signed → List ℕ → List ClauseId → List ℕ → List ℕ → List SatClause
+clauses_in literals ends causes caused cause_ends = clauses_from (causes_of causes 0 caused cause_ends) literals 0 0 ends
 
-abbrev pub clauses_in : List Signed → List ClauseId → List ClauseEnd → List SatClause
-clauses_in literals causes ends = clauses_from literals causes start ends
+-- the ends rise from this one up to that of a list of this length
+abbrev pub AreRising : ℕ → ℕ → List ℕ → Type 0
+AreRising long b [] = b ≡ long
+AreRising long b (e ∷ ends) = (b ≤ e) × AreRising long e ends
 
--- the ends rise from this one up to those of lists of these lengths
-abbrev pub AreRising : ℕ → ℕ → ClauseEnd → List ClauseEnd → Type 0
-AreRising literals causes b [] = (b.literals ≡ literals) × (b.causes ≡ causes)
-AreRising literals causes b (e ∷ ends) = (b.literals ≤ e.literals) × (b.causes ≤ e.causes) × AreRising literals causes e ends
+-- the numbers rise, from this one on, and each is of one of so many clauses
+abbrev pub AreNumbered : ℕ → ℕ → List ℕ → Type 0
+AreNumbered count low [] = Unit {0}
+AreNumbered count low (c ∷ caused) = (low ≤ c) × (c < count) × AreNumbered count (suc c) caused
+
+-- the causes of these clauses, among so many, fill a list of this length
+pub record AreCaused (count causes : ℕ) (caused cause_ends : List ℕ) : Type 0 where
+  pub numbered : AreNumbered count 0 caused
+  pub paired : length caused ≡ length cause_ends
+  pub rising : AreRising causes 0 cause_ends
 
 -- the clauses of these ends fill lists of these lengths
-pub record AreEnds (literals causes : ℕ) (ends : List ClauseEnd) : Type 0 where
+pub record AreEnds (literals : ℕ) (ends : List ℕ) (causes : ℕ) (caused cause_ends : List ℕ) : Type 0 where
   pub few : length ends ≤ 4294967295
-  pub rising : AreRising literals causes start ends
-
--- a clause's literals, its causes, and where they end were appended to the lists
-pub record Appends (more : List Signed) (others : List ClauseId) (ls ms : List Signed) (cs ds : List ClauseId) (ends new_ends : List ClauseEnd) : Type 0 where
-  pub literals : ms ≡ ls ++ more
-  pub causes : ds ≡ cs ++ others
-  pub last : new_ends ≡ ends ++ end_of (length ms) (length ds) ∷ []
+  pub rising : AreRising literals 0 ends
+  pub for_causes : AreCaused (length ends) causes caused cause_ends

@@ -1,8 +1,8 @@
 //! The clauses of the solver. Their literals lie one after the other in one list, and so do their
 //! causes. The model is the list of clauses, in which a clause's position is its number.
-ghost use Rattle.std.specs.Prelude.{◌≡◌, ◌<◌, ◌≤◌, ◌-◌, [], ◌∷◌, ◌++◌, if◌then◌else◌, is_ok, IfOk, OnOk, OnErr, IsErrOf, IsOkUnless, length, slice_index_or};
+ghost use Rattle.std.specs.Prelude.{◌≡◌, ◌<◌, ◌≤◌, ◌-◌, [], ◌∷◌, ◌++◌, if◌then◌else◌, ℕ, is_ok, IfOk, OnOk, OnErr, IsErrOf, IsOkUnless, length, slice_index_or};
 ghost use Rattle.resolvo_pool_core.specs.declared.want.Want.TheVariants.{Ids, Memory};
-ghost use Rattle.resolvo_sat.specs.Clauses.{sat_clause, causes_at, start, end_of, Appends};
+ghost use Rattle.resolvo_sat.specs.Clauses.{sat_clause, causes_at, AreNumbered, IsPlaceOf};
 ghost use Rattle.resolvo_sat.specs.Known.{clause_at};
 ghost use Rattle.resolvo_sat.specs.State.{lists};
 
@@ -12,21 +12,19 @@ use resolvo_store_core::literal::Literal;
 use std::alloc::{AllocError, Global};
 use std::marker::Model;
 
-/// Where the literals and the causes of a clause end. They begin where those of the clause before it
-/// end, and the last ones end where the lists do.
-#[derive(Clone, Copy, Debug)]
-pub struct ClauseEnd {
-    pub literals: u32,
-    pub causes: u32,
-}
-
 /// Clauses: one literal of each is true. A rule has no causes (antecedents); a learnt clause has those
-/// from which it follows, in the order of a RUP check.
+/// from which it follows, in the order of a RUP check. What is of a clause begins where that of the
+/// one before it ends, and the last ends where the list does.
 #[derive(Drop)]
 pub struct ClauseArena {
     literals: Vec<Literal>,
+    /// Where the literals of each clause end.
+    ends: Vec<u32>,
     causes: Vec<ClauseId>,
-    ends: Vec<ClauseEnd>,
+    /// The numbers of the clauses that have causes.
+    caused: Vec<u32>,
+    /// Where the causes of each of these end.
+    cause_ends: Vec<u32>,
 }
 
 impl Model for ClauseArena {
@@ -35,9 +33,9 @@ impl Model for ClauseArena {
 
     ghost Value = { List SatClause };
 
-    ghost view = { λ c. clauses_in c.literals.items c.causes.items c.ends.items };
+    ghost view = { λ c. clauses_in c.literals.items c.ends.items c.causes.items c.caused.items c.cause_ends.items };
 
-    ghost invariant = { λ c. AreEnds (length c.literals.items) (length c.causes.items) c.ends.items };
+    ghost invariant = { λ c. AreEnds (length c.literals.items) c.ends.items (length c.causes.items) c.caused.items c.cause_ends.items };
 }
 
 impl ClauseArena {
@@ -47,8 +45,10 @@ impl ClauseArena {
     {
         ClauseArena {
             literals: Vec::new(alloc),
-            causes: Vec::new(alloc),
             ends: Vec::new(alloc),
+            causes: Vec::new(alloc),
+            caused: Vec::new(alloc),
+            cause_ends: Vec::new(alloc),
         }
     }
 
@@ -66,14 +66,31 @@ impl ClauseArena {
         ensures err { OnErr result (self.new ≡ self.old) }
         ensures ids { IsErrOf result Ids → length self.old ≡ 4294967295 }
     {
+        if causes.is_empty() {
+            return self.push_rule(literals);
+        }
         let number = next_index(self.ends.len())?;
-        append(
+        append_caused(
             &mut self.literals,
-            &mut self.causes,
             &mut self.ends,
+            &mut self.causes,
+            &mut self.caused,
+            &mut self.cause_ends,
             literals,
             causes,
         )?;
+        Ok(ClauseId(number as u32))
+    }
+
+    /// Adds a rule under a new number.
+    fn push_rule(&mut self, literals: &[Literal]) -> R<ClauseId>
+        ensures id { IfOk result (λ id. id.0 ≡ length self.old) }
+        ensures put { OnOk result (self.new ≡ self.old ++ sat_clause literals.now [] ∷ []) }
+        ensures err { OnErr result (self.new ≡ self.old) }
+        ensures ids { IsErrOf result Ids → length self.old ≡ 4294967295 }
+    {
+        let number = next_index(self.ends.len())?;
+        append(&mut self.literals, &mut self.ends, literals)?;
         Ok(ClauseId(number as u32))
     }
 
@@ -87,8 +104,7 @@ impl ClauseArena {
         ensures ids { IsErrOf result Ids → length self.old ≡ 4294967295 }
     {
         let number = next_index(self.ends.len())?;
-        let causes = self.causes.len();
-        append_pair(&mut self.literals, &mut self.ends, causes, first, second)?;
+        append_pair(&mut self.literals, &mut self.ends, first, second)?;
         Ok(ClauseId(number as u32))
     }
 
@@ -99,7 +115,7 @@ impl ClauseArena {
     {
         let begin = begin_of(&self.ends, number);
         let end = self.ends[number];
-        &self.literals[begin.literals as usize..end.literals as usize]
+        &self.literals[begin as usize..end as usize]
     }
 
     /// The causes of the clause of a number.
@@ -107,31 +123,53 @@ impl ClauseArena {
         requires { number < length self.now }
         ensures { result.now ≡ causes_at self.now number }
     {
-        let begin = begin_of(&self.ends, number);
-        let end = self.ends[number];
-        &self.causes[begin.causes as usize..end.causes as usize]
+        // There are fewer than 2^32 clauses.
+        let _count = self.ends.len();
+        let clause = number as u32;
+        match place_of(&self.caused, clause) {
+            Some(place) => {
+                let begin = begin_of(&self.cause_ends, place);
+                let end = self.cause_ends[place];
+                &self.causes[begin as usize..end as usize]
+            }
+            None => &[],
+        }
     }
 }
 
-/// Appends a clause's literals, its causes, and where they end; or nothing.
-fn append(
-    literals: &mut Vec<Literal>,
-    causes: &mut Vec<ClauseId>,
-    ends: &mut Vec<ClauseEnd>,
-    more: &[Literal],
-    others: &[ClauseId],
-) -> R<()>
-    ensures appended { OnOk result (Appends more.now others.now literals.old.items
-        literals.new.items causes.old.items causes.new.items ends.old.items ends.new.items) }
+/// The place of a clause among those that have causes.
+fn place_of(caused: &[u32], clause: u32) -> Option<usize>
+    requires { (count : ℕ) × AreNumbered count 0 caused.now }
+    ensures { IsPlaceOf caused.now clause result }
+{
+    match caused.binary_search(&clause) {
+        Ok(place) => Some(place),
+        Err(_) => None,
+    }
+}
+
+/// Where what is of a clause begins, by the ends.
+fn begin_of(ends: &[u32], number: usize) -> u32
+    requires { number ≤ length ends.now }
+    ensures first { number ≡ 0 → result ≡ 0 }
+    ensures later { 0 < number → result ≡ slice_index_or ends.now (number - 1) 0 }
+{
+    if number == 0 { 0 } else { ends[number - 1] }
+}
+
+/// Appends a clause's literals, and where they end; or nothing.
+fn append(literals: &mut Vec<Literal>, ends: &mut Vec<u32>, more: &[Literal]) -> R<()>
+    ensures literals { OnOk result (literals.new.items ≡ literals.old.items ++ more.now) }
+    ensures ends { OnOk result
+        (ends.new.items ≡ ends.old.items ++ length literals.new.items ∷ []) }
     ensures err_literals { OnErr result (literals.new.items ≡ literals.old.items) }
-    ensures err_causes { OnErr result (causes.new.items ≡ causes.old.items) }
     ensures err_ends { OnErr result (ends.new.items ≡ ends.old.items) }
     ensures refusal { IsOkUnless result Memory }
 {
     let begin = literals.len();
     literals.extend_from_slice(more)?;
     let end = literals.len();
-    match append_causes(causes, ends, end, others) {
+    match push_end(ends, end) {
         Ok(()) => Ok(()),
         Err(want) => {
             literals.truncate(begin);
@@ -140,45 +178,18 @@ fn append(
     }
 }
 
-/// Appends a clause's causes, and where it ends in lists of which the one is so long; or nothing.
-fn append_causes(
-    causes: &mut Vec<ClauseId>,
-    ends: &mut Vec<ClauseEnd>,
-    literals: usize,
-    others: &[ClauseId],
-) -> R<()>
-    ensures causes { OnOk result (causes.new.items ≡ causes.old.items ++ others.now) }
-    ensures ends { OnOk result
-        (ends.new.items ≡ ends.old.items ++ end_of literals (length causes.new.items) ∷ []) }
-    ensures err_causes { OnErr result (causes.new.items ≡ causes.old.items) }
-    ensures err_ends { OnErr result (ends.new.items ≡ ends.old.items) }
-    ensures refusal { IsOkUnless result Memory }
-{
-    let begin = causes.len();
-    causes.extend_from_slice(others)?;
-    let end = causes.len();
-    match push_end(ends, literals, end) {
-        Ok(()) => Ok(()),
-        Err(want) => {
-            causes.truncate(begin);
-            Err(want)
-        }
-    }
-}
-
-/// Appends a rule's two literals, and where it ends beside so many causes; or nothing.
+/// Appends a rule's two literals, and where they end; or nothing.
 #[inline(always)]
 fn append_pair(
     literals: &mut Vec<Literal>,
-    ends: &mut Vec<ClauseEnd>,
-    causes: usize,
+    ends: &mut Vec<u32>,
     first: Literal,
     second: Literal,
 ) -> R<()>
     ensures literals { OnOk result
         (literals.new.items ≡ literals.old.items ++ first ∷ second ∷ []) }
     ensures ends { OnOk result
-        (ends.new.items ≡ ends.old.items ++ end_of (length literals.new.items) causes ∷ []) }
+        (ends.new.items ≡ ends.old.items ++ length literals.new.items ∷ []) }
     ensures err_literals { OnErr result (literals.new.items ≡ literals.old.items) }
     ensures err_ends { OnErr result (ends.new.items ≡ ends.old.items) }
     ensures refusal { IsOkUnless result Memory }
@@ -186,7 +197,7 @@ fn append_pair(
     let begin = literals.len();
     append_two(literals, first, second)?;
     let end = literals.len();
-    match push_end(ends, end, causes) {
+    match push_end(ends, end) {
         Ok(()) => Ok(()),
         Err(want) => {
             literals.truncate(begin);
@@ -211,36 +222,102 @@ fn append_two(items: &mut Vec<Literal>, first: Literal, second: Literal) -> Resu
     }
 }
 
-/// Appends where a clause ends. Longer lists are refused as for want of memory.
+/// Appends a clause's literals and its causes, its number, and where they end; or nothing.
+fn append_caused(
+    literals: &mut Vec<Literal>,
+    ends: &mut Vec<u32>,
+    causes: &mut Vec<ClauseId>,
+    caused: &mut Vec<u32>,
+    cause_ends: &mut Vec<u32>,
+    more: &[Literal],
+    others: &[ClauseId],
+) -> R<()>
+    requires { length ends.old.items < 4294967296 }
+    ensures literals { OnOk result (literals.new.items ≡ literals.old.items ++ more.now) }
+    ensures ends { OnOk result
+        (ends.new.items ≡ ends.old.items ++ length literals.new.items ∷ []) }
+    ensures causes { OnOk result (causes.new.items ≡ causes.old.items ++ others.now) }
+    ensures caused { OnOk result
+        (caused.new.items ≡ caused.old.items ++ length ends.old.items ∷ []) }
+    ensures cause_ends { OnOk result
+        (cause_ends.new.items ≡ cause_ends.old.items ++ length causes.new.items ∷ []) }
+    ensures err_literals { OnErr result (literals.new.items ≡ literals.old.items) }
+    ensures err_ends { OnErr result (ends.new.items ≡ ends.old.items) }
+    ensures err_causes { OnErr result (causes.new.items ≡ causes.old.items) }
+    ensures err_caused { OnErr result (caused.new.items ≡ caused.old.items) }
+    ensures err_cause_ends { OnErr result (cause_ends.new.items ≡ cause_ends.old.items) }
+    ensures refusal { IsOkUnless result Memory }
+{
+    let begin = literals.len();
+    let number = ends.len();
+    append(literals, ends, more)?;
+    match append_causes(causes, caused, cause_ends, number as u32, others) {
+        Ok(()) => Ok(()),
+        Err(want) => {
+            literals.truncate(begin);
+            ends.truncate(number);
+            Err(want)
+        }
+    }
+}
+
+/// Appends a clause's causes, its number, and where its causes end; or nothing.
+fn append_causes(
+    causes: &mut Vec<ClauseId>,
+    caused: &mut Vec<u32>,
+    ends: &mut Vec<u32>,
+    number: u32,
+    more: &[ClauseId],
+) -> R<()>
+    ensures causes { OnOk result (causes.new.items ≡ causes.old.items ++ more.now) }
+    ensures caused { OnOk result (caused.new.items ≡ caused.old.items ++ number ∷ []) }
+    ensures ends { OnOk result
+        (ends.new.items ≡ ends.old.items ++ length causes.new.items ∷ []) }
+    ensures err_causes { OnErr result (causes.new.items ≡ causes.old.items) }
+    ensures err_caused { OnErr result (caused.new.items ≡ caused.old.items) }
+    ensures err_ends { OnErr result (ends.new.items ≡ ends.old.items) }
+    ensures refusal { IsOkUnless result Memory }
+{
+    let begin = causes.len();
+    causes.extend_from_slice(more)?;
+    let end = causes.len();
+    match push_numbers(caused, ends, number, end) {
+        Ok(()) => Ok(()),
+        Err(want) => {
+            causes.truncate(begin);
+            Err(want)
+        }
+    }
+}
+
+/// Appends the number of a clause with causes, and where these end; or nothing.
+fn push_numbers(caused: &mut Vec<u32>, ends: &mut Vec<u32>, number: u32, end: usize) -> R<()>
+    ensures caused { OnOk result (caused.new.items ≡ caused.old.items ++ number ∷ []) }
+    ensures ends { OnOk result (ends.new.items ≡ ends.old.items ++ end ∷ []) }
+    ensures err_caused { OnErr result (caused.new.items ≡ caused.old.items) }
+    ensures err_ends { OnErr result (ends.new.items ≡ ends.old.items) }
+    ensures refusal { IsOkUnless result Memory }
+{
+    caused.push(number)?;
+    match push_end(ends, end) {
+        Ok(()) => Ok(()),
+        Err(want) => {
+            caused.pop();
+            Err(want)
+        }
+    }
+}
+
+/// Appends an end. That of a longer list is refused as for want of memory.
 #[inline(always)]
-fn push_end(ends: &mut Vec<ClauseEnd>, literals: usize, causes: usize) -> R<()>
-    ensures end { OnOk result
-        (ends.new.items ≡ ends.old.items ++ end_of literals causes ∷ []) }
+fn push_end(ends: &mut Vec<u32>, end: usize) -> R<()>
+    ensures end { OnOk result (ends.new.items ≡ ends.old.items ++ end ∷ []) }
     ensures err { OnErr result (ends.new.items ≡ ends.old.items) }
     ensures refusal { IsOkUnless result Memory }
 {
-    if literals > 4_294_967_295 || causes > 4_294_967_295 {
+    if end > 4_294_967_295 {
         return Err(Want::Memory);
     }
-    ends.push(ClauseEnd {
-        literals: literals as u32,
-        causes: causes as u32,
-    })?;
+    ends.push(end as u32)?;
     Ok(())
-}
-
-/// Where the literals and the causes of the clause of a number begin.
-fn begin_of(ends: &[ClauseEnd], number: usize) -> ClauseEnd
-    requires { number ≤ length ends.now }
-    ensures first { number ≡ 0 → result ≡ start }
-    ensures later { 0 < number → result ≡ slice_index_or ends.now (number - 1) start }
-{
-    if number == 0 {
-        ClauseEnd {
-            literals: 0,
-            causes: 0,
-        }
-    } else {
-        ends[number - 1]
-    }
 }
