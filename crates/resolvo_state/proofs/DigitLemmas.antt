@@ -7,7 +7,7 @@ use Rattle.std.proofs.lemmas.Option.{slice_get-get_or, slice_get_within}
 use Rattle.resolvo_pool_core.specs.Ordered.{Ordered}
 use Rattle.resolvo_pool_core.specs.declared.id.VariableId.{VariableId}
 use Rattle.resolvo_store_core.specs.Signed.{Signed, has}
-use Rattle.resolvo_store_core.specs.AtMostOne.{ties, digit}
+use Rattle.resolvo_store_core.specs.AtMostOne.{ties}
 use Rattle.resolvo_sat.specs.Clauses.{SatClause}
 use Rattle.resolvo_sat.specs.declared.state.VariableKind.{VariableKind}
 use Rattle.resolvo_sat.specs.declared.state.VariableKind.TheVariants as Kinds
