@@ -1,7 +1,8 @@
 -- The signs of levels: those above, then the last one's own. Stretches hold levels in a row.
-use Rattle.std.proofs.Common.{◌≡◌, ℕ, zero, suc, ◌+◌, ◌≤◌, false, List, [], ◌∷◌, ◌++◌, length, refl, sym, ap, ◌∙◌, arith, append_assoc, length-append}
+use Rattle.std.proofs.Common.{◌≡◌, ℕ, zero, suc, ◌+◌, ◌*◌, ◌/◌, ◌%◌, ◌≤◌, false, List, [], ◌∷◌, ◌++◌, length, refl, sym, ap, ◌∙◌, arith, append_assoc, length-append}
 use Rattle.std.specs.Prelude.{◌==◌, replicate}
-use Rattle.std.proofs.lemmas.List.{append-nil, replicate_more, length-replicate}
+use Rattle.std.proofs.lemmas.List.{append-nil, replicate_more, replicate-append-replicate, length-replicate}
+use Rattle.std.proofs.Math.Nat.{div-add-mod}
 use Rattle.std.proofs.lemmas.Bool.Decides.{nat_tests}
 use Rattle.std.proofs.lemmas.List.Concat.{flat_map-append}
 use Rattle.std.specs.List.{flat_map}
@@ -37,8 +38,20 @@ one_sign_more n o =
     ap (λ xs. flat_map sign_above (replicate n o) ++ xs) (sym (append-nil (sign_above o))) ∙ sym (flat_map-append sign_above (replicate n o) (o ∷ []))
     ∙ ap (flat_map sign_above) (replicate_more n o)
 
--- a stretch of most levels has the signs of sixteen levels
-pub full : (s : Stretch) → s.more ≡ 15 → flat_map sign_above (replicate 16 s.order) ≡ flat_map sign_above (levels_in s)
+-- sixteen signs more
+pub sixteen_more : (n : ℕ) (o : ChildOrder) → flat_map sign_above (replicate (16 * n) o) ++ flat_map sign_above (replicate 16 o) ≡ flat_map sign_above (replicate (16 * (n + 1)) o)
+sixteen_more n o =
+    let more : 16 * n + 16 ≡ 16 * (n + 1) = omega arith in
+    sym (flat_map-append sign_above (replicate (16 * n) o) (replicate 16 o)) ∙ ap (flat_map sign_above) (replicate-append-replicate (16 * n) 16 o ∙ ap (λ (k : ℕ). replicate k o) more)
+
+-- levels by sixteens, and the rest
+pub by_sixteens : (n : ℕ) (o : ChildOrder) → flat_map sign_above (replicate (16 * (n / 16)) o) ++ flat_map sign_above (replicate (n % 16) o) ≡ flat_map sign_above (replicate n o)
+by_sixteens n o =
+    sym (flat_map-append sign_above (replicate (16 * (n / 16)) o) (replicate (n % 16) o))
+    ∙ ap (flat_map sign_above) (replicate-append-replicate (16 * (n / 16)) (n % 16) o ∙ ap (λ (k : ℕ). replicate k o) (div-add-mod n 16))
+
+-- a stretch of most levels has the signs of so many levels
+pub full : (s : Stretch) → s.more ≡ 255 → flat_map sign_above (replicate 256 s.order) ≡ flat_map sign_above (levels_in s)
 full s h = ap (λ n. flat_map sign_above (s.order ∷ replicate n s.order)) (sym h)
 
 not_one : (n : ℕ) → false ≡ (suc (suc n) == 1)

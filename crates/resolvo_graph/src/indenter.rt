@@ -1,7 +1,7 @@
 //! The indent of a line of the message. For each level it holds whether the entry there has further
 //! siblings. Levels in a row that have one sign are kept, and written, together. The model is the
 //! list of the levels.
-ghost use Rattle.std.specs.Prelude.{◌≡◌, ◌==◌, ◌++◌, ◌∷◌, [], IfOk, IsOkUnless, length, replicate, Some};
+ghost use Rattle.std.specs.Prelude.{◌≡◌, ◌==◌, ◌++◌, ◌∷◌, ◌*◌, [], IfOk, IsOkUnless, length, replicate, Some};
 ghost use Rattle.std.specs.List.{flat_map};
 ghost use Rattle.std.specs.Fmt.{WritesOnOk};
 ghost use Rattle.resolvo_pool_core.specs.declared.want.Want.TheVariants.{Memory};
@@ -12,6 +12,16 @@ use resolvo_pool_core::want::R;
 use std::alloc::Global;
 use std::fmt;
 use std::marker::Model;
+
+/// Signs sixteen times.
+macro_rules! sixteen_times {
+    ($signs:literal) => {
+        concat!(
+            $signs, $signs, $signs, $signs, $signs, $signs, $signs, $signs, $signs, $signs, $signs,
+            $signs, $signs, $signs, $signs, $signs
+        )
+    };
+}
 
 /// Whether an entry is the last of its siblings.
 #[derive(Clone, Copy, Debug, PartialEq, Eq)]
@@ -41,8 +51,8 @@ impl ChildOrder {
         }
     }
 
-    /// The signs of as many levels above the line as a stretch may have.
-    fn signs_above(self) -> &'static str
+    /// The signs of sixteen levels above the line.
+    fn sixteen_above(self) -> &'static str
         ensures { result.now ≡ flat_map sign_above (replicate 16 self) }
     {
         match self {
@@ -50,10 +60,22 @@ impl ChildOrder {
             ChildOrder::Last => "                                                ",
         }
     }
+
+    /// The signs of as many levels above the line as a stretch may have.
+    fn signs_above(self) -> &'static str
+        ensures { result.now ≡ flat_map sign_above (replicate 256 self) }
+    {
+        match self {
+            ChildOrder::HasRemainingSiblings => {
+                sixteen_times!("│  │  │  │  │  │  │  │  │  │  │  │  │  │  │  │  ")
+            }
+            ChildOrder::Last => sixteen_times!("                                                "),
+        }
+    }
 }
 
 /// How many levels more than one a stretch may have.
-const MOST: u8 = 15;
+const MOST: u8 = 255;
 
 /// Levels in a row that have one sign: one, and as many more.
 #[derive(Clone, Copy, Debug)]
@@ -86,9 +108,35 @@ impl Stretch {
     }
 }
 
+/// Writes the signs of some levels above a line, sixteen at a time.
+fn write_each<W: fmt::Write>(order: ChildOrder, count: u8, f: &mut fmt::Formatter<W>) -> fmt::Result
+    ensures { WritesOnOk W.write_str_gives f.old result
+        (flat_map sign_above (replicate count order))
+        f.new }
+{
+    write_sixteens(order, count / 16, f)?;
+    write_rest(order, count % 16, f)
+}
+
+/// Writes the signs of so many times sixteen levels above a line.
+fn write_sixteens<W: fmt::Write>(
+    order: ChildOrder,
+    count: u8,
+    f: &mut fmt::Formatter<W>,
+) -> fmt::Result
+    ensures { WritesOnOk W.write_str_gives f.old result
+        (flat_map sign_above (replicate (16 * count) order))
+        f.new }
+{
+    for _ in 0..count {
+        f.write_str(order.sixteen_above())?;
+    }
+    Ok(())
+}
+
 /// Writes the signs of some levels above a line, one by one.
 #[tactic(auto, using(crate::proofs::IndentLemmas::one_sign_more))]
-fn write_each<W: fmt::Write>(order: ChildOrder, count: u8, f: &mut fmt::Formatter<W>) -> fmt::Result
+fn write_rest<W: fmt::Write>(order: ChildOrder, count: u8, f: &mut fmt::Formatter<W>) -> fmt::Result
     ensures { WritesOnOk W.write_str_gives f.old result
         (flat_map sign_above (replicate count order))
         f.new }
