@@ -5,7 +5,9 @@ use Rattle.std.specs.Prelude.{IfOk}
 use Rattle.resolvo_state.specs.Keys.{AreOnce}
 use Rattle.resolvo_pool_core.specs.declared.id.ClauseId.{ClauseId}
 use Rattle.resolvo_pool_core.specs.declared.requirement.Requirement.{Requirement}
+use Rattle.resolvo_pool.specs.declared.cache.CacheFault.{CacheFault}
 use Rattle.resolvo_pool.specs.declared.cache.CacheFault.TheVariants as fault
+use Rattle.resolvo_pool.specs.Cached.{IsCancelledBy}
 use Rattle.resolvo_pool_core.specs.RuleKeeping.{Packages, Rules}
 use Rattle.resolvo.specs.declared.search.SearchResult.{SearchResult}
 use Rattle.resolvo.specs.declared.search.SearchResult.TheVariants.{Chosen, Unsat}
@@ -17,7 +19,7 @@ use Rattle.resolvo.specs.declared.solver.UnsolvableOrCancelled.TheVariants.{Unso
 use Rattle.resolvo.specs.Solve.{AreChosenOnce, AreRightSteps, Holds, HaveProofs, IsListedIn, IsPreferred, IsSolved, EndsSo, Counts, CountsBy}
 use Rattle.resolvo.specs.Conflicts.{Left, left_of, IsLeft}
 use Rattle.resolvo.specs.declared.conflict.KeptConflict.{KeptConflict}
-use Rattle.resolvo.specs.Solver.{Kept, IfEnded, IsAnswer, IsStopped, Keeps, Leaves, LeavesBy}
+use Rattle.resolvo.specs.Solver.{Kept, HasNothing, IfEnded, IsAnswer, IsStopped, Keeps, Leaves, LeavesBy, stopped_by}
 
 -- the steps of a solved problem are right
 solved_steps : {N S : Type 0} (same : S → S → Bool) (p : Packages N S) (root : Rules) (orders : Requirement → List S → Type 0) (softs : List S) (s : Solved N S) → IsSolved same p orders root softs s → AreRightSteps same p root s.proof.items

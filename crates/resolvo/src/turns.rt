@@ -1,6 +1,6 @@
 //! The turns of soft requirements, as a solver lists them, and the solvables that were chosen in
 //! them.
-ghost use Rattle.std.specs.Prelude.{◌≡◌, true, [], OnOk};
+ghost use Rattle.std.specs.Prelude.{◌≡◌, true, [], OnOk, IfOk};
 ghost use Rattle.indexmap.specs.IndexSet.{insert_all};
 ghost use Rattle.resolvo_store_core.specs.AtMostOne.{IsPrefixOf};
 ghost use Rattle.resolvo_encoder.specs.Steps.{IsBuilt};

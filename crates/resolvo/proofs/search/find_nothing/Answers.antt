@@ -1,3 +1,4 @@
+use Rattle.std.proofs.Common.{refl, arith, sym, subst}
 use Rattle.resolvo.proofs.Nothing.{nothing_encoded, nothing_found, nothing_listed, only_root, parent_left}
 use Rattle.resolvo_encoder.proofs.BuildLemmas.{built_begun}
 use Rattle.resolvo.proofs.search.find_nothing.Goals as goal

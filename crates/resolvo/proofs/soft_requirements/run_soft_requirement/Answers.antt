@@ -1,5 +1,6 @@
-use Rattle.std.proofs.Common.{Option, sym, subst}
+use Rattle.std.proofs.Common.{Option, Some, None, sym, subst}
 use Rattle.resolvo_encoder.specs.declared.encoder.Encoder.{Encoder}
+use Rattle.resolvo_encoder.specs.Steps.{IsBuilt}
 use Rattle.resolvo_turn.specs.Turn.{IsRooted}
 use Rattle.resolvo.specs.Results.{RunsSoft}
 use Rattle.resolvo.specs.SoftTurns.{AreTrueParents, IsOpenSoft, IsOutcome, IsSettled, KeepsTrail}

@@ -1,11 +1,11 @@
-use Rattle.std.proofs.Common.{◌≡◌, ◌+◌, ◌++◌, ◌∷◌, [], List, Option, take, refl, sym, ◌∙◌, ap, subst}
+use Rattle.std.proofs.Common.{◌≡◌, ℕ, ◌+◌, ◌++◌, ◌∷◌, [], List, Option, take, refl, sym, ◌∙◌, ap, subst}
 use Rattle.std.proofs.lemmas.List.{take_more, take_all}
 use Rattle.resolvo_sat.specs.declared.analyze.FinalConflict.{FinalConflict}
 use Rattle.resolvo_pool_core.specs.RuleKeeping.{Rules}
 use Rattle.resolvo_sat.specs.RuleClauses.{IsExact}
 use Rattle.resolvo_state.proofs.Positions.{prefix_same, prefix_then}
 use Rattle.resolvo_turn.specs.Encoder.{IsInOrder}
-use Rattle.resolvo.specs.Turns.{AreRight, IsNextRight, AreAtOrRefused}
+use Rattle.resolvo.specs.Turns.{AreRight, HaveReasons, IsNextRight, AreAtOrRefused}
 use Rattle.resolvo_turn.specs.TurnRules.{IsRootOf}
 use Rattle.resolvo.specs.SoftTurns.{IsCandidate, IsJustified}
 use Rattle.resolvo.proofs.ListLemmas.{item_contained}
