@@ -16,10 +16,12 @@ pub mod Upheld
 pub mod JoinLemmas
 pub mod SplitLemmas
 pub mod PlainLemmas
+pub mod MarkLemmas
 pub mod WriterLemmas
 pub mod LengthLemmas
 pub mod MessageLemmas
 pub mod Verdicts
 pub mod TrimRules
 pub mod StopLemmas
+pub mod AnswerLemmas
 pub mod HeadlineLemmas

@@ -1,12 +1,11 @@
--- Bytes without a newline, and the line that is begun with them.
-use Rattle.std.proofs.Common.{◌≡◌, ℕ, suc, ◌<◌, Bool, true, false, List, [], ◌∷◌, ◌++◌, length, get_or, Option, Some, None, refl, sym, ap, subst, ◌∙◌, arith, append_assoc}
+-- Bytes without a newline.
+use Rattle.std.proofs.Common.{◌≡◌, ℕ, suc, ◌<◌, Bool, true, false, List, [], ◌∷◌, length, get_or, Option, Some, None, refl, ap, arith}
 use Rattle.std.specs.Prelude.{◌&&◌, not}
 use Rattle.std.specs.List.{list_all}
-use Rattle.std.proofs.lemmas.List.Folds.{list_all-append}
 use Rattle.std.proofs.lemmas.Bool.{false_from_ne_true}
 use Rattle.memchr.specs.Find.{IsFirstByte, is_byte}
 use Rattle.resolvo_text.specs.Lines.{is_newline}
-use Rattle.resolve_answer.specs.Message.{AreBegun, IsPlain, joined}
+use Rattle.resolve_answer.specs.Message.{IsPlain}
 
 both : (x y : Bool) → x ≡ true → y ≡ true → (x && y) ≡ true
 both true y h k = k
@@ -20,10 +19,3 @@ all_plain (b ∷ bytes) h = both (not (is_newline b)) (list_all (λ x. not (is_n
 pub plain_if_none : (bytes : List ℕ) (found : Option ℕ) → IsFirstByte (is_byte 10) bytes found → found ≡ None → IsPlain bytes
 plain_if_none bytes None h is = all_plain bytes (λ k lt. false_from_ne_true _ (h k (omega arith) lt))
 plain_if_none bytes (Some k) h is = cc
-
--- the line that is begun goes on
-pub goes_on : (text bytes : List ℕ) (whole : List (List ℕ)) (begun now : List ℕ) → IsPlain bytes → now ≡ begun ++ bytes → AreBegun text whole begun → AreBegun (text ++ bytes) whole now
-goes_on text bytes whole begun now plain put are =
-    let left : IsPlain (begun ++ bytes) = list_all-append (λ b. not (is_newline b)) begun bytes ∙ both (list_all (λ b. not (is_newline b)) begun) (list_all (λ b. not (is_newline b)) bytes) are.left plain in
-    subst (λ (xs : List ℕ). AreBegun (text ++ bytes) whole xs) (sym put)
-    (record { parts = ap (λ xs. xs ++ bytes) are.parts ∙ append_assoc (joined whole) begun bytes; plain = are.plain; left = left })

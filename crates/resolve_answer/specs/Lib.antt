@@ -7,6 +7,7 @@ pub mod Solved
 pub mod Headline
 pub mod Reported
 pub mod Message
+pub mod Marked
 pub mod Verdict
 pub mod Stops
 pub mod Answer

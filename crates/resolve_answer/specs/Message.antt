@@ -32,12 +32,6 @@ IsPlain line = IsTrue (list_all (λ b. not (is_newline b)) line)
 abbrev pub joined : List (List ℕ) → List ℕ
 joined lines = flat_map (λ line. line ++ codes "\n") lines
 
--- The text is that of these lines, and of one that is begun. None of them has a newline.
-pub record AreBegun (text : List ℕ) (lines : List (List ℕ)) (begun : List ℕ) : Type 0 where
-  pub parts : text ≡ joined lines ++ begun
-  pub plain : AllByRecursion IsPlain lines
-  pub left : IsPlain begun
-
 -- These are the lines of the text, up to its last newline; none has a newline, and neither has the
 -- rest.
 pub record AreLinesOf (text : List ℕ) (lines : List (List ℕ)) : Type 0 where

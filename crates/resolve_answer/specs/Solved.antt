@@ -1,5 +1,5 @@
 -- The outcome of a search over the provider of a catalogue, for a request.
-use Rattle.std.specs.Prelude.{◌≡◌, ℕ, ◌<◌, Bool, List, length, take, Some, Contains}
+use Rattle.std.specs.Prelude.{◌≡◌, ℕ, ◌<◌, Bool, List, length, map, take, Some, Contains}
 use Rattle.resolvo_text.specs.Line.{Line}
 use Rattle.resolvo_catalogue_core.specs.Questions.{ReadRequest}
 use Rattle.resolvo_sat.specs.RuleClauses.{IsExact}
@@ -20,6 +20,8 @@ use Rattle.resolvo.specs.Solve.{AreRightSteps, HasProof}
 use Rattle.resolvo.specs.Solver.{Kept}
 use Rattle.resolvo.specs.Turns.{AreSolvedByTurn, first_of}
 use Rattle.resolve_answer.specs.TryOrder.{orders_of}
+use Rattle.resolvo_report.specs.Value.{Message}
+use Rattle.resolvo_report.specs.Text.{lines_text}
 use Rattle.resolvo_report.specs.Grammar.{most_bytes}
 use Rattle.resolve_answer.specs.Message.{IsTextOf, joined}
 use Rattle.resolve_answer.specs.Wishes.{AreWishesOf, free_of}
@@ -55,6 +57,10 @@ pub record IsInstalledOver (catalogue : List Line) (source : ReadRequest) (provi
 -- The lines are the text of the graph of the conflict that the solver keeps.
 abbrev pub IsTextKept : (NameId → NameId → Bool) → (SolvableId → SolvableId → Bool) → Kept Provider NameId SolvableId → List (List ℕ) → Type 0
 IsTextKept same_name same solver message = (l : Left SolvableId) → solver.conflict ≡ Some l → IsTextOf same_name same solver.provider (offered_by l.offers) solver.proof message
+
+-- The bytes are the lines of a message, as a report has them: the text of that graph.
+abbrev pub IsMessageKept : (NameId → NameId → Bool) → (SolvableId → SolvableId → Bool) → Kept Provider NameId SolvableId → List ℕ → Type 0
+IsMessageKept same_name same solver bytes = (message : List (List ℕ)) × (bytes ≡ lines_text (map Message message)) × IsTextKept same_name same solver message
 
 -- The text of the graph of the conflict that the solver keeps has more bytes than a report may have.
 abbrev pub HasLongText : (NameId → NameId → Bool) → (SolvableId → SolvableId → Bool) → Kept Provider NameId SolvableId → Type 0

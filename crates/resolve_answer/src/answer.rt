@@ -1,23 +1,27 @@
-//! The report of the solver's answer: the text of the install report of its turns, or the refused
-//! report of its proof.
+//! The report of the solver's answer, as a text: the install report of its turns, or the refused
+//! report of its proof with the message of its conflict.
 
-ghost use Rattle.std.specs.Prelude.{◌≡◌, true, ℕ, Option, IfOk, IfErr, IsSome};
+ghost use Rattle.std.specs.Prelude.{◌≡◌, true, ℕ, List, map, Option, IfOk, IfErr, IsSome};
 ghost use Rattle.resolvo_catalogue_core.specs.Grammar.{AreRequestLines};
+ghost use Rattle.resolvo_report.specs.Value.{Message};
+ghost use Rattle.resolvo_report.specs.Text.{lines_text};
+ghost use Rattle.resolve_refusal.specs.Parts.{report_with};
 ghost use Rattle.resolvo_catalogue.specs.KeptSets.{root_of as asked_of};
 ghost use Rattle.resolvo_catalogue.specs.Over.{IsOver, AreAsked};
 ghost use Rattle.resolvo.specs.Solver.{HoldsConflict, root_of};
 ghost use Rattle.resolve_answer.specs.Wishes.{AreWishesAt, GivesAll};
 ghost use Rattle.resolve_answer.specs.Solved.{IsInstalledOver, IsRefutedOver};
 ghost use Rattle.resolve_answer.specs.Reported.{HaveLongReport};
-ghost use Rattle.resolve_answer.specs.Answer.{IsAnswerOf};
+ghost use Rattle.resolve_answer.specs.Answer.{IsAnswerOf, IsRefusalText};
 ghost use Rattle.resolve_answer.specs.Stops.{IsStopOf};
 
+use crate::head::report_text;
 use crate::message::message_of;
 use crate::stop::Stop;
 use crate::turns::{Outcome, report_turns, wanted_steps};
 use crate::wishes::{Wish, free_wishes, wishes_of};
 use resolve_install::{install_text, numbers_of};
-use resolve_refusal::{install_steps, refusal_of};
+use resolve_refusal::{Refusal, install_steps, refusal_of};
 use resolvo::conflict::Conflict;
 use resolvo::problem::Problem;
 use resolvo::prove::Steps;
@@ -30,17 +34,17 @@ use resolvo_pool_core::id::{NameId, SolvableId};
 use resolvo_pool_core::want::{R, Want};
 use resolvo_proof::step::ProofStep;
 use resolvo_proof::trim::{Trimmed, trim, trim_to};
-use resolvo_report::Report;
 use std::alloc::Global;
 use std::marker::PhantomData;
 use std::vec::IntoIter;
 
-/// The report of a search. That of an installation is known by its text alone: it may have many
-/// lines, and each is written once.
+/// The report of a search, known by its text alone: it may have many lines, and each is written once.
 #[derive(Debug, Drop)]
 pub enum Answer {
     Installed { text: Vec<u8> },
-    Refused { report: Report },
+    /// The text is that of the report without a message, and behind it the message's lines. A message
+    /// may be long, so it is not copied.
+    Refused { head: Vec<u8>, message: Vec<u8> },
 }
 
 /// What a search chose, turn by turn.
@@ -120,6 +124,20 @@ fn installed(
     )
 }
 
+/// The report of a refusal with these lines of a message.
+fn told(alloc: Global, refusal: Refusal, message: Vec<u8>, release: Release) -> R<Answer>
+    ensures { IfOk result
+        (λ r.
+        (lines : List (List ℕ))
+        → message.items ≡ lines_text (map Message lines)
+        → IsRefusalText (report_with lines refusal) r) }
+{
+    let report = refusal.with_message(Vec::new(alloc));
+    let head = report_text(alloc, &report)?;
+    release.done_with(report);
+    Ok(Answer::Refused { head, message })
+}
+
 /// The conflict that the solver keeps, as a report with its message. It takes the proof from the
 /// solver. `TooLong` where the message alone has more bytes than a report may have.
 fn refused(
@@ -128,6 +146,7 @@ fn refused(
     request: &Request,
     solver: &mut Solver<CatalogueProvider<'_>>,
     conflict: &Conflict,
+    release: Release,
 ) -> Result<Answer, Stop>
     requires { HoldsConflict solver.old conflict.now.clauses.items }
     ensures report { IfOk result
@@ -140,7 +159,7 @@ fn refused(
         → IsRefutedOver ⟦<SolvableId as PartialEq>⟧.eq catalogue.now request.now solver.old
         → HaveLongReport catalogue.now request.now.lines)) }
 {
-    let lines = message_of(alloc, solver, conflict)?;
+    let message = message_of(alloc, solver, conflict)?;
     let steps = trim(alloc, solver.take_proof())?;
     let refusal = refusal_of(
         alloc,
@@ -149,10 +168,8 @@ fn refused(
         solver.provider(),
         steps.as_slice(),
     )?;
-    match lines {
-        Some(lines) => Ok(Answer::Refused {
-            report: refusal.with_message(lines),
-        }),
+    match message {
+        Some(message) => Ok(told(alloc, refusal, message, release)?),
         None => Err(Stop::TooLong),
     }
 }
@@ -184,6 +201,7 @@ fn answered(
     request: &Request,
     solver: &mut Solver<CatalogueProvider<'_>>,
     asked: RequestIds,
+    release: Release,
 ) -> Result<Answer, Stop>
     ensures report { IfOk result
         (λ r.
@@ -204,7 +222,7 @@ fn answered(
     match solver.solve_with(problem_of(asked, free), Steps::Reasons) {
         Ok(chosen) => Ok(installed(alloc, catalogue, request, solver, wishes, chosen.as_slice())?),
         Err(UnsolvableOrCancelled::Unsolvable(conflict)) => {
-            refused(alloc, catalogue, request, solver, &conflict)
+            refused(alloc, catalogue, request, solver, &conflict, release)
         }
         Err(UnsolvableOrCancelled::Memory) => Err(Stop::Lacks(Want::Memory)),
         Err(UnsolvableOrCancelled::Ids) => Err(Stop::Lacks(Want::Ids)),
@@ -236,7 +254,7 @@ fn answered_by(
         → HaveLongReport catalogue.now request.now.lines)) }
 {
     let mut solver = Solver::new(alloc, provider).with_release(release);
-    let report = answered(alloc, catalogue, request, &mut solver, asked);
+    let report = answered(alloc, catalogue, request, &mut solver, asked, release);
     release.done_with(solver);
     report
 }

@@ -3,9 +3,10 @@
 #![tactic(auto)]
 
 pub mod answer;
+mod head;
 pub mod laws;
-mod lines;
 mod message;
+mod message_text;
 pub mod stop;
 pub mod turns;
 pub mod wishes;

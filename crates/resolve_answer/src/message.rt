@@ -1,11 +1,10 @@
-//! The message of a refusal, for people: the text of its conflict's graph, line by line.
+//! The message of a refusal, for people: the text of its conflict's graph, as the report's last lines.
 
 ghost use Rattle.std.specs.Prelude.{◌≡◌, None, IfOk, IfSome};
-ghost use Rattle.resolvo_report.specs.View.{messages_of};
-ghost use Rattle.resolve_answer.specs.Solved.{HasLongText, IsTextKept};
+ghost use Rattle.resolve_answer.specs.Solved.{HasLongText, IsMessageKept};
 ghost use Rattle.resolvo.specs.Solver.{HoldsConflict};
 
-use crate::lines::lines_of;
+use crate::message_text::message_text;
 use crate::stop::MOST_BYTES;
 use resolvo::conflict::Conflict;
 use resolvo::solver::Solver;
@@ -15,19 +14,19 @@ use resolvo_pool_core::want::R;
 use std::alloc::Global;
 
 /// The message of the conflict that the solver keeps. `None` where it has more bytes than a report
-/// may have: then no memory is asked for its lines.
+/// may have, without the signs before its lines: then no memory is asked for its text.
 pub(crate) fn message_of(
     alloc: Global,
     solver: &Solver<CatalogueProvider<'_>>,
     conflict: &Conflict,
-) -> R<Option<Vec<Vec<u8>>>>
+) -> R<Option<Vec<u8>>>
     requires { HoldsConflict solver.now conflict.now.clauses.items }
     ensures fits { IfOk result
         (λ o.
         IfSome o
         (λ v.
-        IsTextKept ⟦<NameId as PartialEq>⟧.eq ⟦<SolvableId as PartialEq>⟧.eq solver.now
-        (messages_of v.items))) }
+        IsMessageKept ⟦<NameId as PartialEq>⟧.eq ⟦<SolvableId as PartialEq>⟧.eq solver.now
+        v.items)) }
     ensures long { IfOk result
         (λ o.
         o ≡ None
@@ -35,8 +34,8 @@ pub(crate) fn message_of(
 {
     match conflict.display_below(alloc, solver, MOST_BYTES + 1)? {
         Some(display) => {
-            let lines = lines_of(alloc, &display)?;
-            Ok(Some(lines))
+            let text = message_text(alloc, &display)?;
+            Ok(Some(text))
         }
         None => Ok(None),
     }

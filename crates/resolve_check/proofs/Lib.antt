@@ -3,4 +3,3 @@ pub mod SplitLemmas
 pub mod Pieces
 pub mod Results
 pub mod CheckLemmas
-mod CountLemmas

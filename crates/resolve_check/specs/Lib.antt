@@ -4,4 +4,3 @@ pub mod Input
 pub mod Devices
 pub mod Faults
 pub mod Check
-pub mod Length

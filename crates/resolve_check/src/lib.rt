@@ -5,6 +5,5 @@
 pub mod check;
 pub mod exit_status;
 pub mod input;
-pub mod length;
 pub mod outcome;
 pub mod written;

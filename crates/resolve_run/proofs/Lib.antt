@@ -1,3 +1,4 @@
+pub mod WriteLemmas
 pub mod Reports
 pub mod HeadlineLemmas
 pub mod AnswerLaws

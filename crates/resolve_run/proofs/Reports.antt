@@ -19,9 +19,10 @@ use Rattle.resolve_check.specs.declared.outcome.RunFault.TheVariants.{Reader, To
 use Rattle.resolve_check.specs.Devices.{Device, StopsReading}
 use Rattle.resolve_check.specs.Faults.{WritesFault}
 use Rattle.resolve_check.proofs.Results.{if_ok, if_err, never_ids}
-use Rattle.resolve_run.specs.Run.{AnswersTexts, AreRead, IsLack, IsWriteLack, StopsBefore, StopsRun}
-use Rattle.resolvo_report.specs.Value.{Report}
-use Rattle.resolve_answer.specs.Reported.{HaveLongReport, IsReportOf}
+use Rattle.resolve_run.specs.Run.{AnswersTexts, AreRead, IsLack, StopsBefore, StopsRun}
+use Rattle.resolve_run.specs.Whole.{whole, IsAlone}
+use Rattle.resolve_run.specs.declared.text.RunText.{RunText}
+use Rattle.resolve_answer.specs.Reported.{HaveLongReport}
 use Rattle.resolve_answer.specs.Stops.{IsStopOf}
 use Rattle.resolve_answer.specs.Wishes.{AreWishesAt}
 use Rattle.resolve_answer.specs.declared.stop.Stop.{Stop}
@@ -74,14 +75,6 @@ nothing_written Writer catalogue request writer h same = absurd h
 
 -- ---- texts that were read
 
--- a report that isn't written is that of its lines
-pub lack_of : (e : RunFault) (catalogue request : List Line) (r : Report) → IsReportOf catalogue request r → IsWriteLack e r → IsLack e catalogue request
-lack_of Reader catalogue request r reported lack = absurd lack
-lack_of TooLong catalogue request r reported lack = (r, reported, lack)
-lack_of Memory catalogue request r reported lack = tt
-lack_of Ids catalogue request r reported lack = absurd lack
-lack_of Writer catalogue request r reported lack = absurd lack
-
 -- texts without an answer stopped the run so
 pub lacked : (e : RunFault) (catalogue request : Device) (are : AreRead catalogue request) → IsLack e are.catalogue_lines are.request_lines → StopsBefore e catalogue request
 lacked Reader catalogue request are lack = absurd lack
@@ -107,10 +100,24 @@ pub nothing_written_within : (budget : Option ℕ) (s : RunStop) (catalogue requ
 nothing_written_within budget (Fault e) catalogue request writer h same = nothing_written e catalogue request writer h same
 nothing_written_within budget GivenUp catalogue request writer (some, are) same = (some, are, same)
 
-pub within_ok : (P : Written → Type 0) (r : Result Written RunFault) (s : Result Written RunStop) → s ≡ within r → IfOk r P → IfOk s P
-within_ok P (Ok w) s is h = subst (λ (x : Result Written RunStop). IfOk x P) (sym is) h
-within_ok P (Err e) s is h = subst (λ (x : Result Written RunStop). IfOk x P) (sym is) tt
+pub within_ok : (P : RunText → Type 0) (r : Result RunText RunFault) (s : Result RunText RunStop) → s ≡ within r → IfOk r P → IfOk s P
+within_ok P (Ok t) s is h = subst (λ (x : Result RunText RunStop). IfOk x P) (sym is) h
+within_ok P (Err e) s is h = subst (λ (x : Result RunText RunStop). IfOk x P) (sym is) tt
 
-pub within_err : (P : RunFault → Type 0) (Q : RunStop → Type 0) (r : Result Written RunFault) (s : Result Written RunStop) → s ≡ within r → ((e : RunFault) → P e → Q (Fault e)) → IfErr r P → IfErr s Q
-within_err P Q (Ok w) s is f h = subst (λ (x : Result Written RunStop). IfErr x Q) (sym is) tt
-within_err P Q (Err e) s is f h = subst (λ (x : Result Written RunStop). IfErr x Q) (sym is) (f e h)
+pub within_err : (P : RunFault → Type 0) (Q : RunStop → Type 0) (r : Result RunText RunFault) (s : Result RunText RunStop) → s ≡ within r → ((e : RunFault) → P e → Q (Fault e)) → IfErr r P → IfErr s Q
+within_err P Q (Ok t) s is f h = subst (λ (x : Result RunText RunStop). IfErr x Q) (sym is) tt
+within_err P Q (Err e) s is f h = subst (λ (x : Result RunText RunStop). IfErr x Q) (sym is) (f e h)
+
+-- ---- the text where a text was not read
+
+pub alone_ok : (P : Outcome → List ℕ → Type 0) (r : Result Written RunFault) (s : Result RunText RunStop) → IsAlone r s → IfOk r (λ w. P w.outcome w.text.items) → IfOk s (λ t. P t.outcome (whole t))
+alone_ok P (Ok w) (Ok t) is h = subst (λ (o : Outcome). P o (whole t)) (sym is.0) (subst (λ (text : List ℕ). P w.outcome text) (sym is.1) h)
+alone_ok P (Ok w) (Err s) is h = absurd is
+alone_ok P (Err e) (Ok t) is h = absurd is
+alone_ok P (Err e) (Err s) is h = tt
+
+pub alone_err : (P : RunFault → Type 0) (Q : RunStop → Type 0) (r : Result Written RunFault) (s : Result RunText RunStop) → IsAlone r s → ((e : RunFault) → P e → Q (Fault e)) → IfErr r P → IfErr s Q
+alone_err P Q (Ok w) (Ok t) is f h = tt
+alone_err P Q (Ok w) (Err s) is f h = absurd is
+alone_err P Q (Err e) (Ok t) is f h = absurd is
+alone_err P Q (Err e) (Err s) is f h = subst (λ (x : RunStop). Q x) (sym is) (f e h)

@@ -1,4 +1,5 @@
 pub mod Headline
 pub mod Answer
 pub mod Run
+pub mod Whole
 pub mod Within

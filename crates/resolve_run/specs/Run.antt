@@ -1,14 +1,11 @@
 -- The effect of a run on its devices: a text is written, or a prefix of one, or nothing, and why.
-use Rattle.std.specs.Prelude.{◌≡◌, ◌⊎◌, ◌<◌, ℕ, List, length, Option}
+use Rattle.std.specs.Prelude.{◌≡◌, ◌⊎◌, ℕ, List, Option}
 use Rattle.std.specs.Io.KnownBytes.{Appends}
 use Rattle.resolvo_text.specs.Device.{IfKnown, TakesPrefix}
 use Rattle.resolvo_text.specs.Line.{Line}
 use Rattle.resolvo_text.specs.Texts.{IsGrammatical}
 use Rattle.resolvo_text.specs.declared.lines.ReadFault.TheVariants as read
 use Rattle.resolvo_catalogue_core.specs.Grammar.{IsCatalogueLine, IsRequestLine}
-use Rattle.resolvo_report.specs.Value.{Report}
-use Rattle.resolvo_report.specs.Text.{report_text}
-use Rattle.resolvo_report.specs.Grammar.{most_bytes}
 use Rattle.resolve_answer.specs.Reported.{HaveLongReport}
 use Rattle.resolve_check.specs.declared.outcome.Outcome.{Outcome}
 use Rattle.resolve_check.specs.declared.outcome.RunFault.{RunFault}
@@ -34,12 +31,6 @@ pub record AreRead (catalogue request : Device) : Type 0 where
   pub request_lines : List Line
   pub catalogue_read : IfKnown catalogue.before (λ text. IsGrammatical IsCatalogueLine text catalogue_lines)
   pub request_read : IfKnown request.before (λ text. IsGrammatical (IsRequestLine catalogue_lines) text request_lines)
-
--- Why a report isn't written: it lacks memory, or has more bytes than a report may have.
-abbrev pub IsWriteLack : RunFault → Report → Type 0
-IsWriteLack Memory report = Unit {0}
-IsWriteLack TooLong report = most_bytes < length (report_text report)
-IsWriteLack _ report = ⊥
 
 -- Why texts that were read have no answer: the search lacks something, or their report is too long.
 abbrev pub IsLack : RunFault → List Line → List Line → Type 0

@@ -9,14 +9,14 @@ use Rattle.resolve_check.specs.Devices.{Device}
 use Rattle.resolve_check.specs.Faults.{fault_of}
 use Rattle.resolve_check.specs.declared.outcome.RunFault.{RunFault}
 use Rattle.resolve_check.specs.declared.outcome.RunFault.TheVariants.{TooLong}
-use Rattle.resolve_check.specs.declared.written.Written.{Written}
 use Rattle.resolve_run.specs.Run.{AreRead, IsLack, StopsBefore, StopsRun}
 use Rattle.resolve_run.specs.declared.stop.RunStop.{RunStop}
 use Rattle.resolve_run.specs.declared.stop.RunStop.TheVariants.{Fault, GivenUp}
+use Rattle.resolve_run.specs.declared.text.RunText.{RunText}
 
 -- the same end, of a run that may have a budget
-abbrev pub within : Result Written RunFault → Result Written RunStop
-within (Ok w) = Ok w
+abbrev pub within : Result RunText RunFault → Result RunText RunStop
+within (Ok t) = Ok t
 within (Err e) = Err (Fault e)
 
 -- the end of a run whose search has no report

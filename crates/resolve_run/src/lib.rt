@@ -3,8 +3,8 @@
 
 pub mod laws;
 mod program;
-mod report;
 mod stop;
+mod text;
 
 pub use laws::{installs_exactly_if_some_set_keeps_the_rules, the_judge_accepts_each_report};
 pub use program::{run, run_with, run_within};

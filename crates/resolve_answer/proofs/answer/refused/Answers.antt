@@ -7,13 +7,11 @@ use Rattle.resolvo_proof.specs.declared.step.ProofStep.{ProofStep}
 use Rattle.resolvo_terms.specs.Terms.{NameId}
 use Rattle.resolvo_catalogue.specs.Ids.{SolvableId}
 use Rattle.resolvo_catalogue.specs.Provider.{Provider}
-use Rattle.resolvo_report.specs.Value.{Report}
-use Rattle.resolvo_report.specs.View.{messages_of}
 use Rattle.resolve_refusal.specs.Refusal.{Refutes}
 use Rattle.resolve_refusal.specs.Parts.{IsRefusalOf, report_with}
 use Rattle.resolvo.specs.Solver.{Kept}
-use Rattle.resolve_answer.specs.Reported.{IsReportOf}
 use Rattle.resolve_answer.specs.Message.{IsTextOf}
+use Rattle.resolve_answer.proofs.AnswerLemmas.{refusal_told}
 use Rattle.resolve_answer.proofs.Upheld.{IsTold, taken_reported}
 use Rattle.resolve_answer.proofs.answer.refused.Goals as goal
 
@@ -37,15 +35,15 @@ returns-in-Some-clause-report c = λ asks is.
     let solver = c.args.solver.now in
     let refusal = c.in_ok-refusal.refusal in
     let (l, there, listed) = c.requires in
-    let message = messages_of c.in-Some.lines.items in
-    let text : IsTextOf same_name same solver.provider (offered_by l.offers) solver.proof message = rw c.in-Some.is at c.in_ok-lines.ensures.fits l there in
+    let (message, shown, is_text) = rw c.in-Some.is at c.in_ok-message.ensures.fits in
+    let text : IsTextOf same_name same solver.provider (offered_by l.offers) solver.proof message = is_text l there in
     let reports : Refutes c.args.catalogue.now c.args.request.now solver.provider kept → IsRefusalOf c.args.catalogue.now c.args.request.now.lines solver.provider.ids kept refusal =
     subst (λ (p : Provider). Refutes c.args.catalogue.now c.args.request.now p kept → IsRefusalOf c.args.catalogue.now c.args.request.now.lines p.ids kept refusal) (c.provider.ensures ∙ ap (λ (k : Kept Provider NameId SolvableId). k.provider) c.take_proof.ensures.left)
     (subst (λ (xs : Steps). Refutes c.args.catalogue.now c.args.request.now c.provider.result.now xs → IsRefusalOf c.args.catalogue.now c.args.request.now.lines c.provider.result.now.ids xs refusal) c.as_slice.ensures.value c.in_ok-refusal.ensures.refusal) in
     let told : IsTold c.args.catalogue.now c.args.request.now.lines message refusal =
     taken_reported c.args.catalogue.now c.args.request.now same solver asks is c.take_proof.result.items c.take_proof.ensures.steps kept steps.ensures.kept steps.ensures.named steps.ensures.proof steps.ensures.empty steps.ensures.places steps.ensures.signs refusal reports
     same_name one_name l there message text in
-    subst (λ (r : Report). IsReportOf c.args.catalogue.now c.args.request.now.lines r) (sym c.with_message.ensures) told.0
+    refusal_told c.args.catalogue.now c.args.request.now.lines refusal message _ (c.in_ok-told-in-Some.ensures message shown) told.0
 
 pub returns-clause-stop : goal.returns-clause-stop
 returns-clause-stop c = λ asks is.
@@ -54,7 +52,7 @@ returns-clause-stop c = λ asks is.
     let solver = c.args.solver.now in
     let refusal = c.in_ok-refusal.refusal in
     let (l, there, listed) = c.requires in
-    let (message, text, long) = c.in_ok-lines.ensures.long c.in-None.is l there in
+    let (message, text, long) = c.in_ok-message.ensures.long c.in-None.is l there in
     let reports : Refutes c.args.catalogue.now c.args.request.now solver.provider kept → IsRefusalOf c.args.catalogue.now c.args.request.now.lines solver.provider.ids kept refusal =
     subst (λ (p : Provider). Refutes c.args.catalogue.now c.args.request.now p kept → IsRefusalOf c.args.catalogue.now c.args.request.now.lines p.ids kept refusal) (c.provider.ensures ∙ ap (λ (k : Kept Provider NameId SolvableId). k.provider) c.take_proof.ensures.left)
     (subst (λ (xs : Steps). Refutes c.args.catalogue.now c.args.request.now c.provider.result.now xs → IsRefusalOf c.args.catalogue.now c.args.request.now.lines c.provider.result.now.ids xs refusal) c.as_slice.ensures.value c.in_ok-refusal.ensures.refusal) in
