@@ -6,14 +6,13 @@ use Rattle.std.specs.List.{slice_get}
 use Rattle.std.specs.Map.{lookup}
 use Rattle.std.specs.Option.{is_some, option_map, option_or}
 use Rattle.std.proofs.lemmas.Bool.{false≢true}
-use Rattle.resolvo_pool_core.specs.declared.id_map.OptionalNumber.{OptionalNumber}
 use Rattle.resolvo_pool.specs.Keyed.{PutsKey, value_at, ArePlaced}
 
 -- a table without entries
-pub none_placed : {K V : Type 0} (eq : K → K → Bool) (number : K → OptionalNumber) (es : List (K × V)) → es ≡ [] → ((k : K) → number k ≡ record { 0 = None }) → ArePlaced eq number es
+pub none_placed : {K V : Type 0} (eq : K → K → Bool) (number : K → Option ℕ) (es : List (K × V)) → es ≡ [] → ((k : K) → number k ≡ None) → ArePlaced eq number es
 none_placed {K} {V} eq number es is blank = subst (λ (xs : List (K × V)). ArePlaced eq number xs) (sym is) (record {
   found = λ k. rw (blank k) refl;
-  below = λ k i e. none i (sym (ap (λ n. n.0) (blank k)) ∙ e);
+  below = λ k i e. none i (sym (blank k) ∙ e);
 })
   where
     none : (i : ℕ) → None ≡ Some i → i < 0
@@ -42,12 +41,12 @@ earlier_at [] x i h = absurd (omega arith)
 earlier_at (y ∷ xs) x zero h = refl
 earlier_at (y ∷ xs) x (suc i) h = earlier_at xs x i (omega arith)
 
-module _ {K V : Type 0} (eq : K → K → Bool) (laws : IsEquivalence eq) (number : K → OptionalNumber) (es : List (K × V)) where
+module _ {K V : Type 0} (eq : K → K → Bool) (laws : IsEquivalence eq) (number : K → Option ℕ) (es : List (K × V)) where
   -- numbers that agree at each key are places too
-  pub same_placed : (new : K → OptionalNumber) → ((k : K) → new k ≡ number k) → ArePlaced eq number es → ArePlaced eq new es
+  pub same_placed : (new : K → Option ℕ) → ((k : K) → new k ≡ number k) → ArePlaced eq number es → ArePlaced eq new es
   same_placed new same placed = record {
     found = λ k. rw (same k) (placed.found k);
-    below = λ k i e. placed.below k i (sym (ap (λ n. n.0) (same k)) ∙ e);
+    below = λ k i e. placed.below k i (sym (same k) ∙ e);
   }
 
   module _ (k : K) (v : V) (fresh : is_some (lookup (eq k) es) ≡ false) where
@@ -76,21 +75,21 @@ module _ {K V : Type 0} (eq : K → K → Bool) (laws : IsEquivalence eq) (numbe
             right (Some x) = refl
 
     -- and the numbers with the next place at the key are the places
-    pub placed_more : (new : K → OptionalNumber) → ((q : K) → new q ≡ cond (eq k q) (record { 0 = Some (length es) }) (number q)) → ArePlaced eq number es → ArePlaced eq new (es ++ (k, v) ∷ [])
+    pub placed_more : (new : K → Option ℕ) → ((q : K) → new q ≡ cond (eq k q) (Some (length es)) (number q)) → ArePlaced eq number es → ArePlaced eq new (es ++ (k, v) ∷ [])
     placed_more new puts placed = record {
       found = λ q. found q (eq k q) (pushed q) (puts q);
-      below = λ q i e. below q i (eq k q) (sym (ap (λ n. n.0) (puts q)) ∙ e);
+      below = λ q i e. below q i (eq k q) (sym (puts q) ∙ e);
     }
       where
         earlier : (o : Option ℕ) → ((i : ℕ) → o ≡ Some i → i < length es) → value_at es o ≡ value_at (es ++ (k, v) ∷ []) o
         earlier None h = refl
         earlier (Some i) h = ap (option_map (λ e. e.1)) (sym (earlier_at es (k, v) i (h i refl)))
 
-        found : (q : K) (b : Bool) → lookup (eq q) (es ++ (k, v) ∷ []) ≡ cond b (Some v) (lookup (eq q) es) → new q ≡ cond b (record { 0 = Some (length es) }) (number q) → lookup (eq q) (es ++ (k, v) ∷ []) ≡ value_at (es ++ (k, v) ∷ []) (new q).0
+        found : (q : K) (b : Bool) → lookup (eq q) (es ++ (k, v) ∷ []) ≡ cond b (Some v) (lookup (eq q) es) → new q ≡ cond b (Some (length es)) (number q) → lookup (eq q) (es ++ (k, v) ∷ []) ≡ value_at (es ++ (k, v) ∷ []) (new q)
         found q true e n = e ∙ rw n (ap (option_map (λ e. e.1)) (sym (last_at es (k, v))))
-        found q false e n = e ∙ (placed.found q ∙ rw n (earlier (number q).0 (placed.below q)))
+        found q false e n = e ∙ (placed.found q ∙ rw n (earlier (number q) (placed.below q)))
 
-        below : (q : K) (i : ℕ) (b : Bool) → (cond b (record { 0 = Some (length es) }) (number q)).0 ≡ Some i → i < length (es ++ (k, v) ∷ [])
+        below : (q : K) (i : ℕ) (b : Bool) → cond b (Some (length es)) (number q) ≡ Some i → i < length (es ++ (k, v) ∷ [])
         below q i true e =
             let is : length es ≡ i = cc in
             omega (arith, length-append es ((k, v) ∷ []))
@@ -103,7 +102,7 @@ module _ {K V : Type 0} (eq : K → K → Bool) (laws : IsEquivalence eq) (numbe
     pub found_in : (fs : List (K × V)) → fs ≡ es ++ (k, v) ∷ [] → lookup (eq k) fs ≡ Some v
     found_in fs is = pushed_to fs is k ∙ rw (laws.refl k) refl
 
-    pub placed_in : (fs : List (K × V)) → fs ≡ es ++ (k, v) ∷ [] → (n : ℕ) → n ≡ length es → (new : K → OptionalNumber) → ((q : K) → new q ≡ cond (eq k q) (record { 0 = Some n }) (number q)) → ArePlaced eq number es → ArePlaced eq new fs
+    pub placed_in : (fs : List (K × V)) → fs ≡ es ++ (k, v) ∷ [] → (n : ℕ) → n ≡ length es → (new : K → Option ℕ) → ((q : K) → new q ≡ cond (eq k q) (Some n) (number q)) → ArePlaced eq number es → ArePlaced eq new fs
     placed_in fs is n count new puts placed =
-        let at_end : (q : K) → new q ≡ cond (eq k q) (record { 0 = Some (length es) }) (number q) = subst (λ (m : ℕ). (q : K) → new q ≡ cond (eq k q) (record { 0 = Some m }) (number q)) count puts in
+        let at_end : (q : K) → new q ≡ cond (eq k q) (Some (length es)) (number q) = subst (λ (m : ℕ). (q : K) → new q ≡ cond (eq k q) (Some m) (number q)) count puts in
         subst (λ (xs : List (K × V)). ArePlaced eq new xs) (sym is) (placed_more new at_end placed)

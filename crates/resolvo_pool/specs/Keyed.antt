@@ -3,7 +3,6 @@ use Rattle.std.specs.Prelude.{◌≡◌, ◌<◌, ℕ, Bool, List, Option, None,
 use Rattle.std.specs.List.{slice_get}
 use Rattle.std.specs.Map.{lookup}
 use Rattle.std.specs.Option.{option_map}
-use Rattle.resolvo_pool_core.specs.declared.id_map.OptionalNumber.{OptionalNumber}
 
 -- fs has v at k, and agrees with es at each other key
 abbrev pub PutsKey : {K V : Type 0} → (K → K → Bool) → List (K × V) → List (K × V) → K → V → Type 0
@@ -15,6 +14,6 @@ value_at es None = None
 value_at es (Some i) = option_map (λ e. e.1) (slice_get es i)
 
 -- the numbers are the places of the keys
-pub record ArePlaced {K V : Type 0} (eq : K → K → Bool) (number : K → OptionalNumber) (es : List (K × V)) : Type 0 where
-  pub found : (k : K) → lookup (eq k) es ≡ value_at es (number k).0
-  pub below : (k : K) (i : ℕ) → (number k).0 ≡ Some i → i < length es
+pub record ArePlaced {K V : Type 0} (eq : K → K → Bool) (number : K → Option ℕ) (es : List (K × V)) : Type 0 where
+  pub found : (k : K) → lookup (eq k) es ≡ value_at es (number k)
+  pub below : (k : K) (i : ℕ) → number k ≡ Some i → i < length es

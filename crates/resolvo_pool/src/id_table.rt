@@ -44,7 +44,7 @@ impl<K: Copy + Eq, V: Drop, M: IdMap<K, OptionalNumber> + Drop> IdTable<K, V, M>
     pub fn get(&self, id: K) -> Option<&V>
         ensures value { option_copied result ≡ lookup (K.eq id) self.now }
     {
-        match self.places.get(id).0 {
+        match self.places.get(id).get() {
             None => None,
             Some(place) => Some(&self.entries[place as usize].1),
         }
@@ -66,11 +66,11 @@ impl<K: Copy + Eq, V: Drop, M: IdMap<K, OptionalNumber> + Drop> IdTable<K, V, M>
         ensures refusal { IsOkUnless result Memory }
     {
         let place = self.entries.len();
-        if place > u32::MAX as usize {
+        if place >= u32::MAX as usize {
             return Err(Want::Memory);
         }
         self.entries.reserve(1)?;
-        self.places.set(id, OptionalNumber(Some(place as u32)))?;
+        self.places.set(id, OptionalNumber::of(place as u32))?;
         self.entries.push((id, value)).unwrap();
         Ok(())
     }

@@ -1,5 +1,5 @@
 -- Values in the order in which they were inserted, each found by a number.
-use Rattle.std.specs.Prelude.{◌≡◌, ◌⊎◌, ℕ, zero, suc, Bool, List, Option, None, Some, slice_get, slice_index_or}
+use Rattle.std.specs.Prelude.{◌≡◌, ◌⊎◌, ℕ, zero, suc, Bool, List, Option, None, Some, slice_get, slice_index_or, refl}
 use Rattle.std.specs.Map.{lookup}
 
 -- the values
@@ -19,6 +19,15 @@ ArePlaced {X} number xs = (x : X) → IsPlace xs x (number x)
 abbrev pub less_one : ℕ → Option ℕ
 less_one zero = None
 less_one (suc n) = Some n
+
+-- one more, or 0 for none
+abbrev pub one_more : Option ℕ → ℕ
+one_more None = zero
+one_more (Some n) = suc n
+
+pub one_more-less_one : (n : ℕ) → one_more (less_one n) ≡ n
+one_more-less_one zero = refl
+one_more-less_one (suc n) = refl
 
 module _ {K : Type 0} (indexed : K → Option ℕ) (eq : K → K → Bool) (places : List ℕ) (others : List (K × ℕ)) where
   -- the number at an index, or that of the value's hash

@@ -1,7 +1,7 @@
 //! Sets and total maps of ids, as traits, and the collections of std that serve as them.
 //! The model of a set is a test of ids; of a map, a function from ids to values. The solver keeps
 //! its tables by id in them, dense and sparse ids alike.
-ghost use Rattle.std.specs.Prelude.{◌≡◌, ℕ, ◌≤◌, ◌*◌, ◌/◌, Bool, true, false, not, IfOk, OnOk, OnErr, IsOkUnless, slice_index_or, None};
+ghost use Rattle.std.specs.Prelude.{◌≡◌, ℕ, ◌≤◌, ◌*◌, ◌/◌, Bool, true, false, not, IfOk, OnOk, OnErr, IsOkUnless, slice_index_or, Some, None, ◌<◌};
 ghost use Rattle.std.specs.Option.{unwrap_or};
 ghost use Rattle.std.specs.HashMap.{get};
 ghost use Rattle.std.specs.HashSet.{contains};
@@ -13,6 +13,7 @@ use crate::want::R;
 use std::alloc::Global;
 use std::collections::{HashMap, HashSet};
 use std::hash::{BuildHasher, Hash};
+use std::marker::Model;
 
 /// A type with one default value.
 pub trait OneDefault: Default {
@@ -30,19 +31,53 @@ impl OneDefault for u64 {
 }
 
 /// A number, or none: the value in a map for an id that may have a number.
+/// Its model is the optional number. It is kept in four bytes, since tables by id are made of it.
 #[derive(Clone, Copy, Debug, PartialEq, Eq)]
-pub struct OptionalNumber(pub Option<u32>);
+pub struct OptionalNumber {
+    /// One more than the number, or 0 for none.
+    raised: u32,
+}
+
+impl Model for OptionalNumber {
+    ghost use Rattle.std.specs.Prelude.{Option, ℕ};
+    ghost use Rattle.resolvo_pool_core.specs.Ordered.{less_one, one_more, one_more-less_one};
+
+    ghost Value = { Option ℕ };
+
+    ghost view = { λ n. less_one n.raised };
+
+    ghost inverse = { λ o. record { raised = one_more o } };
+
+    ghost inverse_ok = { λ n _. λ i. record { raised = one_more-less_one n.raised i } };
+}
+
+impl OptionalNumber {
+    /// A number.
+    pub fn of(number: u32) -> OptionalNumber
+        requires { number < 4294967295 }
+        ensures { result ≡ Some number }
+    {
+        OptionalNumber { raised: number + 1 }
+    }
+
+    /// The number, if there is one.
+    pub fn get(self) -> Option<u32>
+        ensures { result ≡ self }
+    {
+        self.raised.checked_sub(1)
+    }
+}
 
 impl Default for OptionalNumber {
-    ghost is_default = { λ x. x ≡ record { 0 = None } };
+    ghost is_default = { λ x. x ≡ None };
 
     fn default() -> OptionalNumber {
-        OptionalNumber(None)
+        OptionalNumber { raised: 0 }
     }
 }
 
 impl OneDefault for OptionalNumber {
-    ghost blank = { record { 0 = None } };
+    ghost blank = { None };
 
     ghost only = { λ x h. h };
 }
@@ -134,7 +169,11 @@ impl<K: DenseIndex, V: Copy + OneDefault> IdMap<K, V> for Vec<V> {
 
     fn set(&mut self, id: K, value: V) -> R<()> {
         let i = id.to_index();
-        if i >= self.len() {
+        if i == self.len() {
+            self.push(value)?;
+            return Ok(());
+        }
+        if i > self.len() {
             self.resize(i + 1, V::default())?;
         }
         self[i] = value;

@@ -1,7 +1,6 @@
 -- The origins of variables.
 use Rattle.std.specs.Prelude.{◌≡◌, ℕ, ◌+◌, Bool, false, List, [], ◌∷◌, ◌++◌, length, Option, Some, None, cond}
 use Rattle.resolvo_pool_core.specs.declared.id.VariableId.{VariableId}
-use Rattle.resolvo_pool_core.specs.declared.id_map.OptionalNumber.{OptionalNumber}
 use Rattle.resolvo_pool_core.specs.declared.solver_id.SolvableIdOrRoot.{SolvableIdOrRoot}
 use Rattle.resolvo_pool_core.specs.declared.solver_id.SolvableIdOrRoot.TheVariants as Ids
 use Rattle.resolvo_store.specs.declared.variable_map.VariableOrigin.{VariableOrigin}
@@ -40,8 +39,8 @@ module _ {N S : Type 0} (eq : S → S → Bool) where
   InternsOrRoot (Ids.Solvable s) v old new = Interns s v old new
 
   -- the number of each solvable in the map is the place of its variable
-  abbrev pub AreNumbers : List (VariableOrigin N S) → (S → OptionalNumber) → Type 0
-  AreNumbers os number = (s : S) → (number s).0 ≡ place_of s os
+  abbrev pub AreNumbers : List (VariableOrigin N S) → (S → Option ℕ) → Type 0
+  AreNumbers os number = (s : S) → number s ≡ place_of s os
 
 -- the origin is no solvable
 abbrev pub IsHelper : {N S : Type 0} → VariableOrigin N S → Type 0

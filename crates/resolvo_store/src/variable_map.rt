@@ -103,7 +103,7 @@ impl<N: Copy + Drop, S: SolverId> VariableMap<N, S> {
     pub fn lookup_solvable(&self, solvable: S) -> Option<VariableId>
         ensures { option_map (λ v. v.0) result ≡ place_of S.eq solvable self.now }
     {
-        match self.numbers.get(solvable).0 {
+        match self.numbers.get(solvable).get() {
             Some(number) => Some(VariableId(number)),
             None => None,
         }
@@ -115,12 +115,12 @@ impl<N: Copy + Drop, S: SolverId> VariableMap<N, S> {
         ensures err { OnErr result (self.new ≡ self.old) }
         ensures ids { IsErrOf result Ids → length self.old ≡ 2147483647 }
     {
-        if let Some(number) = self.numbers.get(solvable).0 {
+        if let Some(number) = self.numbers.get(solvable).get() {
             return Ok(VariableId(number));
         }
         let variable = next_variable(self.origins.len())?;
         self.origins.reserve(1)?;
-        let number = OptionalNumber(Some(variable.0));
+        let number = OptionalNumber::of(variable.0);
         match self.numbers.set(solvable, number) {
             Ok(()) => {}
             Err(_) => return Err(Want::Memory),

@@ -19,7 +19,7 @@ fn fill_sets<S: SolverId>(set: &mut S::Set, rooted: &mut WithRootSet<S>, id: S) 
 /// Gives an id a score and a number.
 fn fill_maps<S: SolverId>(scores: &mut S::Scores, numbers: &mut S::OptionalIds, id: S) -> R<()> {
     scores.set(id, 1_000_001)?;
-    numbers.set(id, OptionalNumber(Some(7)))
+    numbers.set(id, OptionalNumber::of(7))
 }
 
 fn fill_collections<S: SolverId>(alloc: Global, id: S) -> R<()> {

@@ -13,7 +13,7 @@ invariant_of-self-2 g c =
     c.push.ensures.items ∙ ap (λ r. cond (is_ok r) (c.reserve.new.self.items ++ (c.args.id, c.args.value) ∷ []) c.reserve.new.self.items) c.unwrap.ensures ∙ ap (λ (xs : List (g.row.K.Denot × g.row.V.Denot)). xs ++ (c.args.id, c.args.value) ∷ []) c.reserve.ensures.items in
     let len = c.len-place.ensures in
     let count : c.len-place.result ≡ length es = omega arith in
-    placed_in g.K.PartialEq.eq g.met.K.Eq.laws (g.M.IdMap.value_of c.self.inside.places) es c.args.id c.args.value fresh c.push.new.self.items grown c.len-place.result count (g.M.IdMap.value_of c.set.new.self) c.in_ok-set.ensures.put c.self.invariant
+    placed_in g.K.PartialEq.eq g.met.K.Eq.laws (g.M.IdMap.value_of c.self.inside.places) es c.args.id c.args.value fresh c.push.new.self.items grown c.len-place.result count (g.M.IdMap.value_of c.set.new.self) (rw c.of.ensures at c.in_ok-set.ensures.put) c.self.invariant
 
 pub invariant_of-self-in_err-set : goal.invariant_of-self-in_err-set
 invariant_of-self-in_err-set g c =

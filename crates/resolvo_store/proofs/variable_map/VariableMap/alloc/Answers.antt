@@ -13,6 +13,6 @@ invariant_of-self-2 g c =
     let long : length c.push.new.self.items ≡ length c.self.inside.origins.items + 1 = ap length grown ∙ length-append c.self.inside.origins.items (c.args.origin ∷ []) in
     let len = c.len.ensures in (
       omega arith,
-      λ s. subst (λ (os : List (VariableOrigin g.row.N.Denot g.row.S.Denot)). (g.S.OptionalIds.IdMap.value_of c.self.inside.numbers s).0 ≡ place_from g.S.PartialEq.eq 1 s os) (sym grown)
+      λ s. subst (λ (os : List (VariableOrigin g.row.N.Denot g.row.S.Denot)). g.S.OptionalIds.IdMap.value_of c.self.inside.numbers s ≡ place_from g.S.PartialEq.eq 1 s os) (sym grown)
           (numbers_other g.S.PartialEq.eq (Root ∷ c.self.inside.origins.items) (g.S.OptionalIds.IdMap.value_of c.self.inside.numbers) c.args.origin c.self.invariant.1 (c.requires g.S.PartialEq.eq) s),
     )
