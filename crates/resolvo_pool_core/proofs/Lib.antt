@@ -1,4 +1,5 @@
 pub mod Conditions
+pub mod FlatLemmas
 pub mod PassLearns
 pub mod PassNamed
 pub mod PassSound

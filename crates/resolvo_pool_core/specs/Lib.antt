@@ -1,4 +1,5 @@
 pub mod ByRequirement
+pub mod Flat
 pub mod Ids
 pub mod Indexes
 pub mod Lends

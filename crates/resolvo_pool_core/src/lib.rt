@@ -6,6 +6,7 @@
 pub mod arena;
 pub mod condition;
 pub mod display_name;
+pub mod flat_lists;
 pub mod id;
 pub mod id_map;
 pub mod indexed_set;
