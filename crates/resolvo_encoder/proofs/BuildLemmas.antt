@@ -1,7 +1,7 @@
 -- Each step keeps the precondition of the calls.
 use Rattle.std.proofs.Common.{◌≡◌, ℕ, ◌+◌, ◌<◌, ◌≤◌, inl, inr, Bool, false, [], ◌∷◌, ◌++◌, List, length, Option, Some, None, Vec, Global, refl, sym, ◌∙◌, ap, subst, arith, true}
 use Rattle.std.specs.Prelude.{Contains}
-use Rattle.resolvo_store_core.specs.Lists.{items_or_none}
+use Rattle.resolvo_store_core.specs.Lists.{list_or_none}
 use Rattle.std.proofs.lemmas.Bool.{both_ways}
 use Rattle.std.proofs.lemmas.List.{length-append}
 use Rattle.resolvo_pool_core.specs.declared.id.DenseId.{DenseId}
@@ -14,7 +14,6 @@ use Rattle.resolvo_store_core.proofs.Trails.{seen_prefix}
 use Rattle.resolvo_store_core.specs.Signed.{Signed, has}
 use Rattle.resolvo_store_core.specs.Clauses.{yes, no, candidate_literals}
 use Rattle.resolvo_store_core.specs.Lists.{named_by, candidates_in, condition_in, FixesDisjunction}
-use Rattle.resolvo_store_core.specs.declared.lists.Disjunction.{Disjunction}
 use Rattle.resolvo_store_core.specs.declared.lists.FixedLists.{FixedLists}
 use Rattle.resolvo_store_core.specs.Pick.{pick_by}
 use Rattle.resolvo_store_core.specs.declared.pick.NextDecision.{NextDecision}
@@ -115,15 +114,15 @@ built_gives atom v old c b gives =
     built_grows old new b gives.coding gives.grows refl refl refl refl refl (digits_same old.coding c gives.kinds) (clauses_grow old new b gives.grows refl) b.queue (seen_same old new b gives.trail refl)
 
 -- where a disjunction was added
-pub built_disjunction : {N S : Type 0} (number : ℕ) (given : Disjunction) (old : Encoder N S) (ls : FixedLists N) → IsBuilt old → FixesDisjunction number given old.lists ls → IsBuilt (record old { lists = ls })
+pub built_disjunction : {N S : Type 0} (number : ℕ) (given : List Signed) (old : Encoder N S) (ls : FixedLists N) → IsBuilt old → FixesDisjunction number given old.lists ls → IsBuilt (record old { lists = ls })
 built_disjunction number given old ls b f = record {
   coding = b.coding;
   tied = b.tied;
-  candidates = λ r c a. b.candidates r c (subst (λ x. Contains (items_or_none x) c) (ap (λ cs. slot_of cs r) f.candidates) a);
+  candidates = λ r c a. b.candidates r c (subst (λ x. Contains (list_or_none x) c) (ap (λ cs. slot_of cs r) f.candidates) a);
   gates = b.gates;
   within = b.within;
-  clauses = λ q a. literals_widen old.lists ls old.coding.search.clauses q (condition_widens old.lists ls (given ∷ [], f.put) q.condition) (λ l h. subst (λ cs. has (candidate_literals (items_or_none (slot_of cs q.requirement))) l ≡ true) (sym f.candidates) h) (b.clauses q a);
-  queue = sound_more old.lists ls old.queue (λ r some. ap (λ cs. items_or_none (slot_of cs r)) f.candidates) b.queue;
+  clauses = λ q a. literals_widen old.lists ls old.coding.search.clauses q (condition_widens old.lists ls (given ∷ [], f.put) q.condition) (λ l h. subst (λ cs. has (candidate_literals (list_or_none (slot_of cs q.requirement))) l ≡ true) (sym f.candidates) h) (b.clauses q a);
+  queue = sound_more old.lists ls old.queue (λ r some. ap (λ cs. list_or_none (slot_of cs r)) f.candidates) b.queue;
   seen = b.seen;
 }
 
@@ -166,7 +165,7 @@ pub built_begun : {N S : Type 0} (e : Encoder N S) → IsBegunEncoding e → IsB
 built_begun {N} {S} e begun = record {
   coding = begun.coding.coding;
   tied = nothing_tied e.registry e.coding begun.registry begun.coding.kinds;
-  candidates = λ r c a. absurd (contains_none c (subst (λ x. Contains (items_or_none x) c) (begun.lists.candidates r) a));
+  candidates = λ r c a. absurd (contains_none c (subst (λ x. Contains (list_or_none x) c) (begun.lists.candidates r) a));
   gates = λ r v at. (let none : None ≡ Some v = sym (begun.gates r) ∙ at in absurd cc);
   within = (let none : e.encoded ≡ 0 = begun.encoded in omega arith);
   clauses = λ q a. absurd (contains_none q (subst (λ (qs : List NeedClause). Contains qs q) begun.queue.registered a));

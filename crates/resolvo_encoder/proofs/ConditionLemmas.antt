@@ -9,7 +9,7 @@ use Rattle.resolvo_pool_core.specs.OnePass.{Literal}
 use Rattle.resolvo_pool_core.specs.RuleKeeping.{Packages}
 use Rattle.resolvo_store_core.specs.AtMostOne.{IsPrefixOf}
 use Rattle.resolvo_store_core.specs.Signed.{Signed, has}
-use Rattle.resolvo_store_core.specs.Lists.{condition_in, literals_or_none, HasDisjunction}
+use Rattle.resolvo_store_core.specs.Lists.{condition_in, list_or_none, HasDisjunction}
 use Rattle.resolvo_store_core.specs.declared.pick.NeedClause.{NeedClause}
 use Rattle.resolvo_store_core.specs.declared.lists.FixedLists.{FixedLists}
 use Rattle.resolvo_sat.specs.Steps.{AreInRange}
@@ -37,7 +37,7 @@ condition_stays : {N : Type 0} (old new : FixedLists N) (c : Option (DenseId Dis
 condition_stays old new None prefix h = refl
 condition_stays old new (Some d) prefix h =
     let (x, at) = get_below old.disjunctions d.raw h in
-    ap literals_or_none (prefix_get old.disjunctions new.disjunctions d.raw x prefix at ∙ sym at)
+    ap list_or_none (prefix_get old.disjunctions new.disjunctions d.raw x prefix at ∙ sym at)
 
 module _ {N S : Type 0} (same : S → S → Bool) (p : Packages N S) (lists more : FixedLists N) (old new : SolverState N S) (prefix : IsPrefixOf lists.disjunctions more.disjunctions) (grows : Grows old new) where
   condition_grows : (c : Option (DenseId DisjunctionTag ℕ)) (case : List VersionSetId) → IsCondition same p lists old.atoms.keys c case → IsCondition same p more new.atoms.keys c case

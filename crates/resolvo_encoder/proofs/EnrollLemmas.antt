@@ -1,5 +1,5 @@
 -- Offered solvables are registered, and become candidates.
-use Rattle.std.proofs.Common.{◌≡◌, ℕ, ◌<◌, ◌≤◌, ◌⊎◌, inl, inr, Bool, true, false, List, [], ◌∷◌, length, Some, refl, sym, ◌∙◌, ap, subst, arith, Vec, Global, is_some, Option, None}
+use Rattle.std.proofs.Common.{◌≡◌, ℕ, ◌<◌, ◌≤◌, ◌⊎◌, inl, inr, Bool, true, false, List, [], ◌∷◌, length, Some, refl, sym, ◌∙◌, ap, subst, arith, is_some, Option, None}
 use Rattle.std.specs.Prelude.{Contains}
 use Rattle.std.proofs.lemmas.Bool.{both_ways, and_parts}
 use Rattle.resolvo_pool_core.specs.declared.requirement.Requirement.{Requirement}
@@ -8,9 +8,8 @@ use Rattle.resolvo_pool_core.specs.Provider.{listed}
 use Rattle.resolvo_pool_core.specs.RuleKeeping.{Packages, Rules, IsLawful, is_in, meets, is_match}
 use Rattle.resolvo_pool_core.specs.Text.{alternatives_of}
 use Rattle.resolvo_store_core.specs.AtMostOne.{IsPrefixOf}
-use Rattle.resolvo_store_core.specs.Lists.{has_candidates, candidates_in, items_or_none, FixesCandidates, FixesDisjunction}
+use Rattle.resolvo_store_core.specs.Lists.{has_candidates, candidates_in, list_or_none, FixesCandidates, FixesDisjunction}
 use Rattle.resolvo_store_core.specs.declared.lists.Candidate.{Candidate}
-use Rattle.resolvo_store_core.specs.declared.lists.Disjunction.{Disjunction}
 use Rattle.resolvo_store_core.specs.declared.lists.FixedLists.{FixedLists}
 use Rattle.resolvo_decide.specs.Needs.{literals_in}
 use Rattle.resolvo_decide.proofs.SoundLemmas.{sound_more}
@@ -152,19 +151,19 @@ module _ {N S : Type 0} (same : S → S → Bool) (exact : IsExact same) (p : Pa
       }
 
   -- a disjunction was added
-  pub disjunction_keeps : (number : ℕ) (given : Disjunction) (old : Encoder N S) (ls : FixedLists N) → IsEncoding same p root old → FixesDisjunction number given old.lists ls → IsEncoding same p root (relisted old ls)
+  pub disjunction_keeps : (number : ℕ) (given : List Signed) (old : Encoder N S) (ls : FixedLists N) → IsEncoding same p root old → FixesDisjunction number given old.lists ls → IsEncoding same p root (relisted old ls)
   disjunction_keeps number given old ls e f = relists old ls e (given ∷ [], f.put) (λ r h. slots r)
-      (λ r c a. e.listed r c (subst (λ x. Contains (items_or_none x) c) (slots r) a))
-      (λ r s h m. (let (c, there, fits) = e.offered r s (sym (ap is_some (slots r)) ∙ h) m in (c, subst (λ x. Contains (items_or_none x) c) (sym (slots r)) there, fits)))
+      (λ r c a. e.listed r c (subst (λ x. Contains (list_or_none x) c) (slots r) a))
+      (λ r s h m. (let (c, there, fits) = e.offered r s (sym (ap is_some (slots r)) ∙ h) m in (c, subst (λ x. Contains (list_or_none x) c) (sym (slots r)) there, fits)))
       (λ r h. e.forbid r (sym (ap is_some (slots r)) ∙ h))
     where
       slots : (r : Requirement) → slot_of ls.candidates r ≡ slot_of old.lists.candidates r
       slots r = ap (λ cs. slot_of cs r) f.candidates
 
   -- the registered solvables became the requirement's candidates
-  pub candidates_keep : (r : Requirement) (offered : List (Offered N S)) (given : Vec (Candidate N) Global) (old : Encoder N S) (ls : FixedLists N) → IsEncoding same p root old → AreOffered same p r offered → IsGuarded same p (E.rules_of old) r → has_candidates old.lists r ≡ false
-      → ((o : Offered N S) → Contains offered o → (c : Candidate N) × Contains given.items c × IsOfferedAs old.registry old.coding o c)
-      → ((c : Candidate N) → Contains given.items c → (o : Offered N S) × Contains offered o × IsOfferedAs old.registry old.coding o c)
+  pub candidates_keep : (r : Requirement) (offered : List (Offered N S)) (given : List (Candidate N)) (old : Encoder N S) (ls : FixedLists N) → IsEncoding same p root old → AreOffered same p r offered → IsGuarded same p (E.rules_of old) r → has_candidates old.lists r ≡ false
+      → ((o : Offered N S) → Contains offered o → (c : Candidate N) × Contains given c × IsOfferedAs old.registry old.coding o c)
+      → ((c : Candidate N) → Contains given c → (o : Offered N S) × Contains offered o × IsOfferedAs old.registry old.coding o c)
       → FixesCandidates r given old.lists ls → IsEncoding same p root (relisted old ls) × (has_candidates ls r ≡ true)
   candidates_keep r offered given old ls e h guarded fresh each all fixes = (
     relists old ls e (prefix_equal old.lists.disjunctions ls.disjunctions fixes.disjunctions)
@@ -184,9 +183,9 @@ module _ {N S : Type 0} (same : S → S → Bool) (exact : IsExact same) (p : Pa
       listed_new : (q : Requirement) (c : Candidate N) → Contains (candidates_in ls q) c → (s : S) × IsCandidate old (p.package_of s) s c × (meets same p q s ≡ true)
       listed_new q c a = elim (slots q) [
         | inl is ↦
-            let (o, b, fits) = all c (subst (λ x. Contains (items_or_none x) c) (ap (slot_of ls.candidates) is ∙ here) a) in
+            let (o, b, fits) = all c (subst (λ x. Contains (list_or_none x) c) (ap (slot_of ls.candidates) is ∙ here) a) in
             (o.solvable, given_candidate c o b fits, subst (λ x. meets same p x o.solvable ≡ true) (sym is) (offer_meets same exact p root lawful r offered o h b))
-        | inr is ↦ e.listed q c (subst (λ x. Contains (items_or_none x) c) is a)
+        | inr is ↦ e.listed q c (subst (λ x. Contains (list_or_none x) c) is a)
       ]
 
       offered_new : (q : Requirement) (s : S) → has_candidates ls q ≡ true → meets same p q s ≡ true → (c : Candidate N) × Contains (candidates_in ls q) c × IsCandidate old (p.package_of s) s c
@@ -194,10 +193,10 @@ module _ {N S : Type 0} (same : S → S → Bool) (exact : IsExact same) (p : Pa
         | inl is ↦
             let (o, b, one) = meets_offer same exact p root lawful r offered s h (subst (λ x. meets same p x s ≡ true) is m) in
             let (c, there, fits) = each o b in
-            (c, subst (λ x. Contains (items_or_none x) c) (sym (ap (slot_of ls.candidates) is ∙ here)) there, subst (λ x. IsCandidate old (p.package_of x) x c) (sym one) (given_candidate c o b fits))
+            (c, subst (λ x. Contains (list_or_none x) c) (sym (ap (slot_of ls.candidates) is ∙ here)) there, subst (λ x. IsCandidate old (p.package_of x) x c) (sym one) (given_candidate c o b fits))
         | inr is ↦
             let (c, there, fits) = e.offered q s (sym (ap is_some is) ∙ k) m in
-            (c, subst (λ x. Contains (items_or_none x) c) (sym is) there, fits)
+            (c, subst (λ x. Contains (list_or_none x) c) (sym is) there, fits)
       ]
 
       guarded_new : (q : Requirement) → has_candidates ls q ≡ true → IsGuarded same p (E.rules_of old) q
@@ -273,8 +272,8 @@ module _ {N S : Type 0} (same : S → S → Bool) where
           let same_coding : enrolled_one.coding ≡ middle.coding = sym (ap (λ (x : Encoder N S). x.coding) is) in
           inr (
             own,
-            subst (λ x. AreCandidates new.coding.atoms.keys (items_or_none x) (offered_solvables offered)) (sym here)
-                (candidates_grow enrolled_one.coding new.coding given.items (offered_solvables offered) (subst (λ (c : SolverState N S). Grows c new.coding) (sym same_coding) grows) enrols.ordered),
+            subst (λ x. AreCandidates new.coding.atoms.keys (list_or_none x) (offered_solvables offered)) (sym here)
+                (candidates_grow enrolled_one.coding new.coding given (offered_solvables offered) (subst (λ (c : SolverState N S). Grows c new.coding) (sym same_coding) grows) enrols.ordered),
           )
     ]
   ]
@@ -297,24 +296,24 @@ module _ {N S : Type 0} (same : S → S → Bool) where
   ]
     where
       -- what needs some literal is still true of a requirement's literals
-      still_has : (test : List Signed → Bool) → test [] ≡ false → (middle : Encoder N S) (given : Vec (Candidate N) Global) → FixesCandidates r given middle.lists new.lists → has_candidates middle.lists r ≡ false → (q : Requirement) → test (literals_in middle.lists q) ≡ true → test (literals_in new.lists q) ≡ true
+      still_has : (test : List Signed → Bool) → test [] ≡ false → (middle : Encoder N S) (given : List (Candidate N)) → FixesCandidates r given middle.lists new.lists → has_candidates middle.lists r ≡ false → (q : Requirement) → test (literals_in middle.lists q) ≡ true → test (literals_in new.lists q) ≡ true
       still_has test empty middle given fixes fresh q h = elim (fix_other r q given middle.lists new.lists fixes) [
-        | inl is ↦ absurd (both_ways (test (candidate_literals (items_or_none (slot_of middle.lists.candidates q)))) (ap (λ x. test (candidate_literals (items_or_none x))) (ap (slot_of middle.lists.candidates) is ∙ no_slot (slot_of middle.lists.candidates r) fresh) ∙ empty) h)
-        | inr is ↦ subst (λ x. test (candidate_literals (items_or_none x)) ≡ true) (sym is) h
+        | inl is ↦ absurd (both_ways (test (candidate_literals (list_or_none (slot_of middle.lists.candidates q)))) (ap (λ x. test (candidate_literals (list_or_none x))) (ap (slot_of middle.lists.candidates) is ∙ no_slot (slot_of middle.lists.candidates r) fresh) ∙ empty) h)
+        | inr is ↦ subst (λ x. test (candidate_literals (list_or_none x)) ≡ true) (sym is) h
       ]
 
       -- what has candidates keeps them
-      still_same : (middle : Encoder N S) (given : Vec (Candidate N) Global) → FixesCandidates r given middle.lists new.lists → has_candidates middle.lists r ≡ false → (q : Requirement) → 0 < length (candidates_in middle.lists q) → candidates_in new.lists q ≡ candidates_in middle.lists q
+      still_same : (middle : Encoder N S) (given : List (Candidate N)) → FixesCandidates r given middle.lists new.lists → has_candidates middle.lists r ≡ false → (q : Requirement) → 0 < length (candidates_in middle.lists q) → candidates_in new.lists q ≡ candidates_in middle.lists q
       still_same middle given fixes fresh q some = elim (fix_other r q given middle.lists new.lists fixes) [
-        | inl is ↦ (let none : length (candidates_in middle.lists q) ≡ 0 = ap (λ x. length (items_or_none x)) (ap (slot_of middle.lists.candidates) is ∙ no_slot (slot_of middle.lists.candidates r) fresh) in absurd (omega (arith, some, none)))
-        | inr is ↦ ap items_or_none is
+        | inl is ↦ (let none : length (candidates_in middle.lists q) ≡ 0 = ap (λ x. length (list_or_none x)) (ap (slot_of middle.lists.candidates) is ∙ no_slot (slot_of middle.lists.candidates r) fresh) in absurd (omega (arith, some, none)))
+        | inr is ↦ ap list_or_none is
       ]
 
-      candidates_new : (middle : Encoder N S) (given : Vec (Candidate N) Global) → IsBuilt middle → FixesCandidates r given middle.lists new.lists → ((c : Candidate N) → Contains given.items c → (o : Offered N S) × Contains offered o × IsOfferedAs middle.registry middle.coding o c)
+      candidates_new : (middle : Encoder N S) (given : List (Candidate N)) → IsBuilt middle → FixesCandidates r given middle.lists new.lists → ((c : Candidate N) → Contains given c → (o : Offered N S) × Contains offered o × IsOfferedAs middle.registry middle.coding o c)
           → (q : Requirement) (c : Candidate N) → Contains (candidates_in new.lists q) c → (c.literal.positive ≡ true) × ((s : S) × Represents middle.coding.atoms.keys c.literal.variable (Solvable s))
       candidates_new middle given built fixes all q c a = elim (fix_other r q given middle.lists new.lists fixes) [
         | inl is ↦
-            let (o, there, fits) = all c (subst (λ x. Contains (items_or_none x) c) (ap (slot_of new.lists.candidates) is ∙ fix_at r given middle.lists new.lists fixes) a) in
+            let (o, there, fits) = all c (subst (λ x. Contains (list_or_none x) c) (ap (slot_of new.lists.candidates) is ∙ fix_at r given middle.lists new.lists fixes) a) in
             (fits.positive, (o.solvable, fits.present))
-        | inr is ↦ built.candidates q c (subst (λ x. Contains (items_or_none x) c) is a)
+        | inr is ↦ built.candidates q c (subst (λ x. Contains (list_or_none x) c) is a)
       ]

@@ -16,9 +16,8 @@ use Rattle.resolvo_pool_core.specs.RuleKeeping.{Packages, Rules, IsLawful, is_ma
 use Rattle.resolvo_store_core.specs.Signed.{Signed, has}
 use Rattle.resolvo_store_core.specs.Clauses.{yes, no, candidate_literals as literals_in}
 use Rattle.resolvo_store_core.specs.Deferred.{version_set_of, candidates_of}
-use Rattle.resolvo_store_core.specs.Lists.{has_candidates, candidates_in, condition_in, literals_or_none, FixesDisjunction}
+use Rattle.resolvo_store_core.specs.Lists.{has_candidates, candidates_in, condition_in, list_or_none, FixesDisjunction}
 use Rattle.resolvo_store_core.specs.declared.conditions.DeferredConjunct.{DeferredConjunct}
-use Rattle.resolvo_store_core.specs.declared.lists.Disjunction.{Disjunction}
 use Rattle.resolvo_store_core.specs.declared.lists.FixedLists.{FixedLists}
 use Rattle.resolvo_sat.specs.Entries.{made_true}
 use Rattle.resolvo_sat.specs.State.{history, count_of}
@@ -53,14 +52,14 @@ use Rattle.resolvo_encoder.proofs.NeedLemmas.{IsReady, need_keeps}
 use Rattle.resolvo_encoder.proofs.RequireLemmas.{each_of, parent_grows, extends_then, some_one}
 
 -- the literals of an added disjunction are its own
-disjunction_there : {N : Type 0} (id : DenseId DisjunctionTag ℕ) (given : Disjunction) (old new : FixedLists N) → FixesDisjunction id.raw given old new → id.raw < length new.disjunctions
+disjunction_there : {N : Type 0} (id : DenseId DisjunctionTag ℕ) (given : List Signed) (old new : FixedLists N) → FixesDisjunction id.raw given old new → id.raw < length new.disjunctions
 disjunction_there id given old new f =
     let next : id.raw ≡ length old.disjunctions = f.next in
     let long : length new.disjunctions ≡ length old.disjunctions + 1 = ap length f.put ∙ length-append old.disjunctions (given ∷ []) in
     omega (arith, next, long)
 
-disjunction_is : {N : Type 0} (id : DenseId DisjunctionTag ℕ) (given : Disjunction) (old new : FixedLists N) → FixesDisjunction id.raw given old new → condition_in new (Some id) ≡ given.literals.items
-disjunction_is id given old new f = ap literals_or_none (ap (slice_get new.disjunctions) f.next ∙ ap (λ (xs : List Disjunction). slice_get xs (length old.disjunctions)) f.put ∙ get_last old.disjunctions given)
+disjunction_is : {N : Type 0} (id : DenseId DisjunctionTag ℕ) (given : List Signed) (old new : FixedLists N) → FixesDisjunction id.raw given old new → condition_in new (Some id) ≡ given
+disjunction_is id given old new f = ap list_or_none (ap (slice_get new.disjunctions) f.next ∙ ap (λ (xs : List (List Signed)). slice_get xs (length old.disjunctions)) f.put ∙ get_last old.disjunctions given)
 
 -- the last value is behind the others
 pub deferred_last : {X : Type 0} (xs : List X) (x : X) (ys : List X) → ys ≡ xs ++ x ∷ [] → slice_get ys (length xs) ≡ Some x
@@ -143,9 +142,9 @@ module _ {N S : Type 0} (same : S → S → Bool) (exact : IsExact same) (p : Pa
   })
 
   -- the clause of a case was added, whose packages are recorded
-  pub case_keeps : IsLawful p → (parent : Option S) (need : ConditionalRequirement) (case : List VersionSetId) (v : VariableId) (id : DenseId DisjunctionTag ℕ) (given : Disjunction) (old : Encoder N S) (ls : FixedLists N) (new : Encoder N S) → IsEncoding same p root old
+  pub case_keeps : IsLawful p → (parent : Option S) (need : ConditionalRequirement) (case : List VersionSetId) (v : VariableId) (id : DenseId DisjunctionTag ℕ) (given : List Signed) (old : Encoder N S) (ls : FixedLists N) (new : Encoder N S) → IsEncoding same p root old
       → FixesDisjunction id.raw given old.lists ls → has_candidates old.lists need.requirement ≡ true → IsParentVariable old.coding.atoms.keys parent v → Contains (rules_for same p root parent).requirements need
-      → Contains (cases_for same p need) case → AreMatched same p case → AreInRange (count_of old.coding.search) given.literals.items → AreCaseLiterals same p old case given.literals.items → EncodesNeed (Kind.Needs parent need case) v (Some id) need.requirement (record old { lists = ls }) new
+      → Contains (cases_for same p need) case → AreMatched same p case → AreInRange (count_of old.coding.search) given → AreCaseLiterals same p old case given → EncodesNeed (Kind.Needs parent need case) v (Some id) need.requirement (record old { lists = ls }) new
       → IsEncoding same p root new × E.rules_of new (Rule.needs parent need case)
   case_keeps lawful parent need case v id given old ls new e fixes has_list present listed cased matched below at_least_one new_clause =
       let middle = disjunction_keeps same exact p root lawful id.raw given old ls e fixes in
@@ -153,13 +152,13 @@ module _ {N S : Type 0} (same : S → S → Bool) (exact : IsExact same) (p : Pa
       let (keeps, rules) = need_keeps same exact p root lawful (Kind.Needs parent need case) v (Some id) need.requirement (record old { lists = ls }) new middle has_still (refl, present, conditioned, listed, cased, matched) ready new_clause in
       (keeps, rules (Rule.needs parent need case) refl)
     where
-      literals : condition_in ls (Some id) ≡ given.literals.items
+      literals : condition_in ls (Some id) ≡ given
       literals = disjunction_is id given old.lists ls fixes
 
       conditioned : IsCondition same p ls old.coding.atoms.keys (Some id) case
       conditioned = record {
         there = disjunction_there id given old.lists ls fixes;
-        in_range = subst (AreInRange (suc (length old.coding.atoms.keys))) (sym literals) (subst (λ n. AreInRange n given.literals.items) (count_is old.coding e.coding) below);
+        in_range = subst (AreInRange (suc (length old.coding.atoms.keys))) (sym literals) (subst (λ n. AreInRange n given) (count_is old.coding e.coding) below);
         spells = subst (λ (xs : List Signed). Spells (origin old.coding.atoms.keys) xs (case_literals same p case)) (sym literals) at_least_one.spells;
       }
 
@@ -191,8 +190,8 @@ module _ {N S : Type 0} (same : S → S → Bool) (exact : IsExact same) where
 -- ---- a case is encoded
 
 -- the variables of the case's clause exist
-pub case_in_range : {N S : Type 0} (e : Encoder N S) (parent : Option S) (v : VariableId) (id : DenseId DisjunctionTag ℕ) (given : Disjunction) (ls : FixedLists N) (r : Requirement) → IsBuilt e → FixesDisjunction id.raw given e.lists ls → IsParentVariable e.coding.atoms.keys parent v
-    → AreInRange (count_of e.coding.search) given.literals.items → AreInRange (count_of e.coding.search) (no v ∷ (condition_in ls (Some id) ++ literals_in (candidates_in ls r)))
+pub case_in_range : {N S : Type 0} (e : Encoder N S) (parent : Option S) (v : VariableId) (id : DenseId DisjunctionTag ℕ) (given : List Signed) (ls : FixedLists N) (r : Requirement) → IsBuilt e → FixesDisjunction id.raw given e.lists ls → IsParentVariable e.coding.atoms.keys parent v
+    → AreInRange (count_of e.coding.search) given → AreInRange (count_of e.coding.search) (no v ∷ (condition_in ls (Some id) ++ literals_in (candidates_in ls r)))
 case_in_range e parent v id given ls r built fixes present below = built_in_range (record e { lists = ls }) v (Some id) r (built_disjunction id.raw given e ls built fixes) (parent_below e built parent v present)
     (subst (AreInRange (count_of e.coding.search)) (sym (disjunction_is id given e.lists ls fixes)) below)
 
@@ -205,13 +204,13 @@ pub record EncodesCase {N S : Type 0} (same : S → S → Bool) (parent : Option
   pub lists : FixedLists N
   pub variable : VariableId
   pub id : DenseId DisjunctionTag ℕ
-  pub given : Disjunction
+  pub given : List Signed
   pub case : List VersionSetId
   pub is_case : case ≡ sets_case sets
   pub fixes : Fixes same need.requirement offered old fixed
   pub encodes : EncodesRules same [] fixed named
   pub present : IsParentVariable named.coding.atoms.keys parent variable
-  pub negates : CaseLiterals same sets given.literals.items named at_least_one
+  pub negates : CaseLiterals same sets given named at_least_one
   pub disjoins : FixesDisjunction id.raw given at_least_one.lists lists
   pub states : EncodesNeed (Kind.Needs parent need case) variable (Some id) need.requirement (record at_least_one { lists = lists }) new
 
@@ -236,7 +235,7 @@ module _ {N S : Type 0} (same : S → S → Bool) (exact : IsExact same) (parent
       let (third, at_least_one) = h.negates.encoding p root lawful second all_sets (λ v k. (parent, need, sets_case sets, listed, cased, k)) in
       let (last, rule) = case_keeps same exact p root lawful parent need h.case h.variable h.id h.given h.at_least_one h.lists new third h.disjoins (subst (λ ls. has_candidates ls need.requirement ≡ true) (sym (h.negates.lists ∙ h.encodes.lists)) has)
       (parent_variable_grows h.named h.at_least_one parent h.variable h.negates.extends h.present) listed (subst (λ vs. Contains (cases_for same p need) vs) (sym h.is_case) cased) (subst (λ vs. AreMatched same p vs) (sym h.is_case) matched)
-      h.negates.in_range (subst (λ vs. AreCaseLiterals same p h.at_least_one vs h.given.literals.items) (sym h.is_case) at_least_one) h.states in
+      h.negates.in_range (subst (λ vs. AreCaseLiterals same p h.at_least_one vs h.given) (sym h.is_case) at_least_one) h.states in
       (last, subst (λ vs. E.rules_of new (Rule.needs parent need vs)) h.is_case rule)
 
 -- a case whose version set excludes the parent, of a package that isn't marked, needs no clause

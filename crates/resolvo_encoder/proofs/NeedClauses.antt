@@ -8,9 +8,8 @@ use Rattle.resolvo_pool_core.specs.declared.id.DisjunctionTag.{DisjunctionTag}
 use Rattle.resolvo_store_core.specs.AtMostOne.{IsPrefixOf}
 use Rattle.resolvo_store_core.specs.Signed.{Signed, has}
 use Rattle.resolvo_store_core.specs.Clauses.{no}
-use Rattle.resolvo_store_core.specs.Lists.{literals_or_none, condition_in}
+use Rattle.resolvo_store_core.specs.Lists.{list_or_none, condition_in}
 use Rattle.resolvo_store_core.specs.declared.pick.NeedClause.{NeedClause}
-use Rattle.resolvo_store_core.specs.declared.lists.Disjunction.{Disjunction}
 use Rattle.resolvo_store_core.specs.declared.lists.FixedLists.{FixedLists}
 use Rattle.resolvo_decide.specs.Needs.{literals_in}
 use Rattle.resolvo_sat.specs.Known.{clause_at}
@@ -51,6 +50,6 @@ pub condition_widens : {N : Type 0} (old new : FixedLists N) → IsPrefixOf old.
 condition_widens old new prefix None l h = h
 condition_widens old new prefix (Some d) l h = go (slice_get old.disjunctions d.raw) refl h
   where
-    go : (o : Option Disjunction) → slice_get old.disjunctions d.raw ≡ o → has (literals_or_none o) l ≡ true → has (condition_in new (Some d)) l ≡ true
+    go : (o : Option (List Signed)) → slice_get old.disjunctions d.raw ≡ o → has (list_or_none o) l ≡ true → has (condition_in new (Some d)) l ≡ true
     go None at a = absurd (both_ways false refl a)
-    go (Some x) at a = subst (λ (o : Option Disjunction). has (literals_or_none o) l ≡ true) (sym (prefix_get old.disjunctions new.disjunctions d.raw x prefix at)) a
+    go (Some x) at a = subst (λ (o : Option (List Signed)). has (list_or_none o) l ≡ true) (sym (prefix_get old.disjunctions new.disjunctions d.raw x prefix at)) a

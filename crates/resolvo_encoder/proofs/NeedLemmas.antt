@@ -18,7 +18,7 @@ use Rattle.resolvo_store_core.specs.Signed.{Signed, has}
 use Rattle.resolvo_store_core.specs.Clauses.{yes, no, root as root_variable, candidate_literals as literals_in}
 use Rattle.resolvo_store_core.specs.AtMostOne.{IsPrefixOf}
 use Rattle.resolvo_store_core.specs.declared.lists.FixedLists.{FixedLists}
-use Rattle.resolvo_store_core.specs.Lists.{has_candidates, candidates_in, condition_in, items_or_none}
+use Rattle.resolvo_store_core.specs.Lists.{has_candidates, candidates_in, condition_in, list_or_none}
 use Rattle.resolvo_store_core.specs.declared.pick.NeedClause.{NeedClause}
 use Rattle.resolvo_store_core.specs.declared.lists.Candidate.{Candidate}
 use Rattle.resolvo_decide.specs.Queue.{needs_of}
@@ -541,7 +541,7 @@ module _ {N S : Type 0} (same : S → S → Bool) (exact : IsExact same) (p : Pa
     positive = λ n l s h (other, m). absurd (rootless n l h other);
     named = λ n s (v, present, tracked). absurd (no_tracker v tracked);
     candidates = λ s (v, present, tracked). absurd (no_tracker v tracked);
-    listed = λ r c h. absurd (contains_none c (subst (λ o. Contains (items_or_none o) c) (b.lists.candidates r) h));
+    listed = λ r c h. absurd (contains_none c (subst (λ o. Contains (list_or_none o) c) (b.lists.candidates r) h));
     offered = λ r s h m. absurd (both_ways false refl (sym (ap is_some (b.lists.candidates r)) ∙ h));
     fixed = λ r h. absurd (elim h [ inl (parent, need, case, (n, at), is) ↦ no_rule n (Rule.needs parent need case) at | inr (n, at) ↦ no_rule n (Rule.shared r) at ]);
     queued = λ q h. absurd (contains_none q (subst (λ qs. Contains qs q) b.queue.registered h));

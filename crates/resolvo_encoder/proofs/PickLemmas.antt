@@ -4,7 +4,7 @@ use Rattle.std.specs.Prelude.{Contains}
 use Rattle.resolvo_pool_core.specs.declared.requirement.Requirement.{Requirement}
 use Rattle.resolvo_pool_core.specs.OnePass.{Literal}
 use Rattle.resolvo_pool_core.specs.RuleKeeping.{Packages, is_in}
-use Rattle.resolvo_store_core.specs.Lists.{has_candidates, candidates_in, items_or_none}
+use Rattle.resolvo_store_core.specs.Lists.{has_candidates, candidates_in, list_or_none}
 use Rattle.resolvo_store_core.specs.declared.lists.Candidate.{Candidate}
 use Rattle.resolvo_sat.specs.RuleClauses.{Atom}
 use Rattle.resolvo_sat.specs.First.{IsFirstPick}
@@ -87,7 +87,7 @@ module _ {N S : Type 0} (old new : Encoder N S) (grows : Grows old.coding new.co
   order_stays : (r : Requirement) (list : List S) → HasOrder old r list → HasOrder new r list
   order_stays r list (has, are) = (
     ap is_some (keeps r has) ∙ has,
-    subst (λ x. AreCandidates new.coding.atoms.keys (items_or_none x) list) (sym (keeps r has)) (candidates_grow old.coding new.coding (candidates_in old.lists r) list grows are),
+    subst (λ x. AreCandidates new.coding.atoms.keys (list_or_none x) list) (sym (keeps r has)) (candidates_grow old.coding new.coding (candidates_in old.lists r) list grows are),
   )
 
   -- a first pick stays one
@@ -106,7 +106,7 @@ module _ {N S : Type 0} (orders : Requirement → List S → Type 0) where
     | inr (is, are) ↦ (offered_solvables offered, subst (λ x. orders x (offered_solvables offered)) (sym is) here, are)
     | inl stays ↦
         let (list, ordered, are) = before q (sym (ap is_some stays) ∙ has) in
-        (list, ordered, subst (λ x. AreCandidates new.coding.atoms.keys (items_or_none x) list) (sym stays) (candidates_grow old.coding new.coding (candidates_in old.lists q) list grows are))
+        (list, ordered, subst (λ x. AreCandidates new.coding.atoms.keys (list_or_none x) list) (sym stays) (candidates_grow old.coding new.coding (candidates_in old.lists q) list grows are))
   ]
 
   -- so does a step that keeps the lists

@@ -230,11 +230,11 @@ put_other m n (Union u) (Union w) x f = elim (cases_Bool (w.0 == u.0)) [
 ]
 
 -- the candidates of a requirement that received them
-pub fix_at : {N : Type 0} (r : Requirement) (given : Vec (Candidate N) Global) (old new : FixedLists N) → FixesCandidates r given old new → slot_of new.candidates r ≡ Some given
+pub fix_at : {N : Type 0} (r : Requirement) (given : List (Candidate N)) (old new : FixedLists N) → FixesCandidates r given old new → slot_of new.candidates r ≡ Some given
 fix_at r given old new f = put_at old.candidates new.candidates r given f.put
 
 -- another requirement keeps its candidates
-pub fix_other : {N : Type 0} (r q : Requirement) (given : Vec (Candidate N) Global) (old new : FixedLists N) → FixesCandidates r given old new → (q ≡ r) ⊎ (slot_of new.candidates q ≡ slot_of old.candidates q)
+pub fix_other : {N : Type 0} (r q : Requirement) (given : List (Candidate N)) (old new : FixedLists N) → FixesCandidates r given old new → (q ≡ r) ⊎ (slot_of new.candidates q ≡ slot_of old.candidates q)
 fix_other r q given old new f = put_other old.candidates new.candidates r q given f.put
 
 pub each_of : {X : Type 0} (P : X → Type 0) (xs : List X) (x : X) → AllByRecursion P xs → Contains xs x → P x

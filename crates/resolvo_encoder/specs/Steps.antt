@@ -1,6 +1,5 @@
 -- The steps of encoding.
-use Rattle.std.specs.Prelude.{◌≡◌, ℕ, ◌<◌, ◌≤◌, ◌⊎◌, Bool, true, false, List, [], ◌∷◌, ◌++◌, length, Option, Some, None, IsSome, leb, Contains, Vec, slice_get}
-use Rattle.std.specs.declared.alloc.Global.{Global}
+use Rattle.std.specs.Prelude.{◌≡◌, ℕ, ◌<◌, ◌≤◌, ◌⊎◌, Bool, true, false, List, [], ◌∷◌, ◌++◌, length, Option, Some, None, IsSome, leb, Contains, slice_get}
 use Rattle.resolvo_pool_core.specs.declared.id.ClauseId.{ClauseId}
 use Rattle.resolvo_pool_core.specs.declared.id.VariableId.{VariableId}
 use Rattle.resolvo_pool_core.specs.declared.requirement.Requirement.{Requirement}
@@ -158,7 +157,7 @@ pub record Enrols {N S : Type 0} (same : S → S → Bool) (offered : List (Offe
 pub record Fixes {N S : Type 0} (same : S → S → Bool) (r : Requirement) (offered : List (Offered N S)) (old new : Encoder N S) : Type 0 where
   pub fixed : ((has_candidates old.lists r ≡ true) × (new ≡ old))
       ⊎ ((has_candidates old.lists r ≡ false) × (middle : Encoder N S)
-      × (given : Vec (Candidate N) Global) × Enrols same offered given.items old middle
+      × (given : List (Candidate N)) × Enrols same offered given old middle
       × FixesCandidates r given middle.lists new.lists
       × (new ≡ record middle { lists = new.lists }))
 

@@ -294,7 +294,8 @@ impl<N: Copy + Exact + Hash + Debug + Drop, S: Copy + Exact + Hash + Debug> Enco
             return Ok(());
         }
         let candidates = self.register(alloc, offered)?;
-        self.lists.fix_candidates(requirement, candidates)?;
+        self.lists
+            .fix_candidates(requirement, candidates.as_slice())?;
         Ok(())
     }
 

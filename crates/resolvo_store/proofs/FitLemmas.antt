@@ -1,7 +1,6 @@
 -- The lists that clauses name, by id and as plain lists.
-use Rattle.std.proofs.Common.{◌≡◌, ℕ, ◌&&◌, Bool, true, nat_lt, ◌∷◌, ◌++◌, Option, Some, None, is_some, option_map, Vec, Global, refl, sym, ◌∙◌, ap, ltb-true}
+use Rattle.std.proofs.Common.{◌≡◌, ℕ, ◌&&◌, Bool, true, nat_lt, ◌∷◌, ◌++◌, Option, Some, None, refl, sym, ◌∙◌, ap, ltb-true}
 use Rattle.std.proofs.lemmas.Bool.{and_parts}
-use Rattle.std.proofs.lemmas.List.{length-map}
 use Rattle.resolvo_pool_core.specs.declared.id.DenseId.{DenseId}
 use Rattle.resolvo_pool_core.specs.declared.id.DisjunctionTag.{DisjunctionTag}
 use Rattle.resolvo_pool_core.specs.declared.id.LearntClauseTag.{LearntClauseTag}
@@ -12,7 +11,6 @@ use Rattle.resolvo_store_core.specs.Lists.{Named, has_candidates, has_disjunctio
 use Rattle.resolvo_store_core.specs.Clauses.{no, candidate_literals, literals_by, lists_exist, has_lists, is_own_in_range, OwnInRange, HasLists, Fits}
 use Rattle.resolvo_store.specs.Stored.{Kept, plain}
 use Rattle.resolvo_store.specs.Calls.{has_condition, has_candidates_for, has_learnt_in}
-use Rattle.resolvo_store_core.specs.declared.lists.Disjunction.{Disjunction}
 use Rattle.resolvo_store_core.specs.declared.lists.FixedLists.{FixedLists}
 use Rattle.resolvo_store_core.specs.declared.store_clause.Clause.{Clause}
 use Rattle.resolvo_store_core.specs.declared.store_clause.Clause.TheVariants.{InstallRoot, Requires, ForbidMultipleInstances, Constrains, ConstrainsParent, ConstrainsExcluded, Lock, Learnt, Excluded, AnyOf}
@@ -45,15 +43,11 @@ exist_same f g h k i j fg hk ij (Learnt l) = ij l
 exist_same f g h k i j fg hk ij (Excluded v s) = refl
 exist_same f g h k i j fg hk ij (AnyOf x v) = refl
 
-some_mapped : {X Y : Type 0} (f : X → Y) (o : Option X) → is_some o ≡ is_some (option_map f o)
-some_mapped f None = refl
-some_mapped f (Some x) = refl
-
 -- the lists of a clause exist where the plain lists have them
 pub lists_plain : {N S : Type 0} (score : S → N → ℕ) (k : Kept N S) (c : Clause N) → has_lists k.lists c ≡ lists_exist (has_condition (plain score k)) (has_candidates_for (plain score k)) (has_learnt_in (plain score k)) c
-lists_plain score k c = exist_same (has_disjunction k.lists) (has_condition (plain score k)) (has_candidates k.lists) (has_candidates_for (plain score k)) (has_learnt k.lists) (has_learnt_in (plain score k)) condition (λ r. some_mapped (λ v. v.items) (slot_of k.lists.candidates r))
-    (λ l. ap (nat_lt l.raw) (sym (length-map k.lists.learnt (λ (v : Vec Signed Global). v.items)))) c
+lists_plain score k c = exist_same (has_disjunction k.lists) (has_condition (plain score k)) (has_candidates k.lists) (has_candidates_for (plain score k)) (has_learnt k.lists) (has_learnt_in (plain score k)) condition (λ r. refl)
+    (λ l. refl) c
   where
     condition : (d : Option (DenseId DisjunctionTag ℕ)) → has_disjunction k.lists d ≡ has_condition (plain score k) d
     condition None = refl
-    condition (Some d) = ap (nat_lt d.raw) (sym (length-map k.lists.disjunctions (λ (e : Disjunction). e.literals.items)))
+    condition (Some d) = refl

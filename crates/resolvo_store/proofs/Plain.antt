@@ -1,5 +1,5 @@
 -- The fields of a clause store agree with its plain lists.
-use Rattle.std.proofs.Common.{Result, Ok, Err, OnOk, ◌==◌, eqb, cond, true, false, ◌⊎◌, inl, inr, ◌≡◌, ℕ, zero, suc, List, [], ◌∷◌, map, Option, Some, None, Vec, Global, option_map, refl, sym, ap, subst}
+use Rattle.std.proofs.Common.{Result, Ok, Err, OnOk, ◌==◌, eqb, cond, true, false, ◌⊎◌, inl, inr, ◌≡◌, ℕ, List, [], Option, Some, None, option_map, refl, sym, ap, subst}
 use Rattle.std.specs.Prelude.{slice_get}
 use Rattle.std.proofs.lemmas.Bool.Decides.{eqb_tells}
 use Rattle.std.specs.Option.{unwrap_or}
@@ -13,38 +13,27 @@ use Rattle.resolvo_store_core.specs.Signed.{Signed}
 use Rattle.resolvo_store_core.specs.Trail.{assigned, value_in}
 use Rattle.resolvo_store_core.specs.Values.{value_at}
 use Rattle.resolvo_store.specs.Changes.{same_requirement, with_candidates}
-use Rattle.resolvo_store_core.specs.Lists.{FixesCandidates, named_by, items_or_none, literals_or_none, condition_in}
+use Rattle.resolvo_store_core.specs.Lists.{FixesCandidates, named_by, list_or_none, condition_in}
 use Rattle.resolvo_store_core.specs.Pick.{first_broken, pick}
 use Rattle.resolvo_store.specs.Calls.{broken_in, picked_in}
 use Rattle.resolvo_store.specs.Stored.{Kept, Like, plain, names_in, condition_among}
 use Rattle.resolvo_store_core.specs.declared.lists.Candidate.{Candidate}
 use Rattle.resolvo_store_core.specs.declared.lists.FixedLists.{FixedLists}
-use Rattle.resolvo_store_core.specs.declared.lists.Disjunction.{Disjunction}
 use Rattle.resolvo_store_core.specs.declared.decision.Entry.{Entry}
 use Rattle.resolvo_store_core.specs.declared.decision_map.Assignment.{Assignment}
 use Rattle.resolvo_store.proofs.Picks.{SameNames, first_broken_same, pick_same}
 
-items_plain : {X : Type 0} (o : Option (Vec X Global)) → items_or_none o ≡ unwrap_or (option_map (λ v. v.items) o) []
-items_plain None = refl
-items_plain (Some v) = refl
-
-disjunction_plain : (ds : List Disjunction) (i : ℕ) → literals_or_none (slice_get ds i) ≡ unwrap_or (slice_get (map (λ d. d.literals.items) ds) i) []
-disjunction_plain [] i = refl
-disjunction_plain (d ∷ ds) zero = refl
-disjunction_plain (d ∷ ds) (suc i) = disjunction_plain ds i
-
-learnt_plain : (vs : List (Vec Signed Global)) (i : ℕ) → items_or_none (slice_get vs i) ≡ unwrap_or (slice_get (map (λ v. v.items) vs) i) []
-learnt_plain [] i = refl
-learnt_plain (v ∷ vs) zero = refl
-learnt_plain (v ∷ vs) (suc i) = learnt_plain vs i
+list_plain : {X : Type 0} (o : Option (List X)) → list_or_none o ≡ unwrap_or o []
+list_plain None = refl
+list_plain (Some xs) = refl
 
 -- ids name the same lists in the plain lists
 pub names_plain : {N S : Type 0} (score : S → N → ℕ) (k : Kept N S) → SameNames (named_by k.lists) (names_in (plain score k))
-names_plain score k = record { candidates = λ r. items_plain (slot_of k.lists.candidates r); condition = condition; learnt = λ l. learnt_plain k.lists.learnt l.raw }
+names_plain score k = record { candidates = λ r. list_plain (slot_of k.lists.candidates r); condition = condition; learnt = λ l. list_plain (slice_get k.lists.learnt l.raw) }
   where
-    condition : (d : Option (DenseId DisjunctionTag ℕ)) → condition_in k.lists d ≡ condition_among (map (λ e. e.literals.items) k.lists.disjunctions) d
+    condition : (d : Option (DenseId DisjunctionTag ℕ)) → condition_in k.lists d ≡ condition_among k.lists.disjunctions d
     condition None = refl
-    condition (Some d) = disjunction_plain k.lists.disjunctions d.raw
+    condition (Some d) = list_plain (slice_get k.lists.disjunctions d.raw)
 
 -- a map that agrees with the trail has its values
 pub values_plain : (slots : List (Option Assignment)) (es : List Entry) → ((v : ℕ) → at slots v ≡ assigned es v) → (v : ℕ) → value_at slots v ≡ value_in es v
@@ -67,11 +56,11 @@ on_ok (Ok x) h f = f h
 on_ok (Err e) h f = record {}
 
 -- a requirement got candidates
-pub candidates_like : {N S : Type 0} (score : S → N → ℕ) (k : Kept N S) (new : FixedLists N) (r : Requirement) (given : Vec (Candidate N) Global) → FixesCandidates r given k.lists new → Like (plain score (record k { lists = new })) (with_candidates r given.items (plain score k))
+pub candidates_like : {N S : Type 0} (score : S → N → ℕ) (k : Kept N S) (new : FixedLists N) (r : Requirement) (given : List (Candidate N)) → FixesCandidates r given k.lists new → Like (plain score (record k { lists = new })) (with_candidates r given (plain score k))
 candidates_like {N} score k new r given fixed = record {
   candidates = put r fixed.put;
-  disjunctions = ap (map (λ d. d.literals.items)) fixed.disjunctions;
-  learnt = ap (map (λ v. v.items)) fixed.learnt;
+  disjunctions = fixed.disjunctions;
+  learnt = fixed.learnt;
   clauses = refl;
   watched = refl;
   watchers = λ l. refl;
@@ -80,13 +69,13 @@ candidates_like {N} score k new r given fixed = record {
   score = λ n. refl;
 }
   where
-    slot : (xs ys : List (Option (Vec (Candidate N) Global))) (i j : ℕ) → PutsSlot xs ys i (Some given) → ((eqb i j ≡ true) × (i ≡ j)) ⊎ ((eqb i j ≡ false) × (i ≡ j → ⊥))
-        → option_map (λ v. v.items) (at ys j) ≡ cond (i == j) (Some given.items) (option_map (λ v. v.items) (at xs j))
-    slot xs ys i j puts (inl e) = rw (e.0) (ap (option_map (λ v. v.items)) (subst (λ (n : ℕ). at ys n ≡ Some given) e.1 puts.0))
-    slot xs ys i j puts (inr e) = rw (e.0) (ap (option_map (λ v. v.items)) (puts.1 j (λ h. e.1 (sym h))))
+    slot : (xs ys : List (Option (List (Candidate N)))) (i j : ℕ) → PutsSlot xs ys i (Some given) → ((eqb i j ≡ true) × (i ≡ j)) ⊎ ((eqb i j ≡ false) × (i ≡ j → ⊥))
+        → at ys j ≡ cond (i == j) (Some given) (at xs j)
+    slot xs ys i j puts (inl e) = rw (e.0) (subst (λ (n : ℕ). at ys n ≡ Some given) e.1 puts.0)
+    slot xs ys i j puts (inr e) = rw (e.0) (puts.1 j (λ h. e.1 (sym h)))
 
-    put : (s : Requirement) → PutsAt k.lists.candidates new.candidates s given → (q : Requirement) → option_map (λ v. v.items) (slot_of new.candidates q) ≡ cond (same_requirement s q) (Some given.items) (option_map (λ v. v.items) (slot_of k.lists.candidates q))
+    put : (s : Requirement) → PutsAt k.lists.candidates new.candidates s given → (q : Requirement) → slot_of new.candidates q ≡ cond (same_requirement s q) (Some given) (slot_of k.lists.candidates q)
     put (Single v) puts (Single w) = slot k.lists.candidates.0 new.candidates.0 v.0 w.0 puts.0 (eqb_tells v.0 w.0)
-    put (Single v) puts (Union w) = ap (λ xs. option_map (λ x. x.items) (at xs w.0)) puts.1
-    put (Union v) puts (Single w) = ap (λ xs. option_map (λ x. x.items) (at xs w.0)) puts.1
+    put (Single v) puts (Union w) = ap (λ (xs : List (Option (List (Candidate N)))). at xs w.0) puts.1
+    put (Union v) puts (Single w) = ap (λ (xs : List (Option (List (Candidate N)))). at xs w.0) puts.1
     put (Union v) puts (Union w) = slot k.lists.candidates.1 new.candidates.1 v.0 w.0 puts.0 (eqb_tells v.0 w.0)

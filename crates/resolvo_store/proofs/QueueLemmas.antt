@@ -1,5 +1,5 @@
 -- What the queue of a store knows stays so.
-use Rattle.std.proofs.Common.{◌≡◌, ℕ, ◌+◌, ◌*◌, ◌/◌, ◌<◌, ◌≤◌, ◌⊎◌, inl, inr, Bool, true, false, List, [], length, max, cond, Option, Some, None, Result, Ok, Err, OnOk, OnErr, Vec, Global, option_map, not, is_some, refl, sym, ◌∙◌, ap, subst, arith, eqb-true, eq-eqb}
+use Rattle.std.proofs.Common.{◌≡◌, ℕ, ◌+◌, ◌*◌, ◌/◌, ◌<◌, ◌≤◌, ◌⊎◌, inl, inr, Bool, true, false, List, [], length, max, cond, Option, Some, None, Result, Ok, Err, OnOk, OnErr, Vec, Global, not, is_some, refl, sym, ◌∙◌, ap, subst, arith, eqb-true, eq-eqb}
 use Rattle.std.specs.Prelude.{◌==◌, nat_lt, IfOk}
 use Rattle.std.proofs.lemmas.Bool.{and_parts, both_ways, cases_Bool, ltb-false}
 use Rattle.std.proofs.lemmas.List.{append-nil}
@@ -13,14 +13,13 @@ use Rattle.resolvo_pool_core.specs.declared.requirement.Requirement.TheVariants.
 use Rattle.resolvo_pool_core.specs.Slots.{at}
 use Rattle.resolvo_pool_core.specs.ByRequirement.{slot_of, PutsAt}
 use Rattle.resolvo_store_core.specs.AddPairs.{with_entry}
-use Rattle.resolvo_store_core.specs.Lists.{items_or_none, candidates_in, has_candidates, FixesCandidates, FixesDisjunction, FixesLearnt}
+use Rattle.resolvo_store_core.specs.Lists.{list_or_none, candidates_in, has_candidates, FixesCandidates, FixesDisjunction, FixesLearnt}
 use Rattle.resolvo_store_core.specs.Trail.{Tracked, IsSeenOf, KeepsSeen}
 use Rattle.resolvo_store_core.specs.declared.decision.Entry.{Entry}
 use Rattle.resolvo_store_core.specs.declared.decision_tracker.Set.{Set}
 use Rattle.resolvo_store_core.specs.declared.decision_tracker.Set.TheVariants.{New, Already, Opposite}
 use Rattle.resolvo_store_core.specs.Signed.{Signed}
 use Rattle.resolvo_store_core.specs.declared.lists.Candidate.{Candidate}
-use Rattle.resolvo_store_core.specs.declared.lists.Disjunction.{Disjunction}
 use Rattle.resolvo_store_core.specs.declared.lists.FixedLists.{FixedLists}
 use Rattle.resolvo_store_core.proofs.Trails.{seen_prefix, seen_pushed}
 use Rattle.resolvo_decide.specs.Queue.{IsNew, IsSound, IsSynced, KeepsSound}
@@ -43,7 +42,7 @@ queue_new lists t score q new none = record {
 
 -- where the candidates are the same
 pub sound_same : {N : Type 0} (old new : FixedLists N) (q : DecideQueue N) → new.candidates ≡ old.candidates → IsSound old q → IsSound new q
-sound_same old new q same = sound_more old new q (λ r some. ap (λ cs. items_or_none (slot_of cs r)) same)
+sound_same old new q same = sound_more old new q (λ r some. ap (λ cs. list_or_none (slot_of cs r)) same)
 
 -- another requirement keeps its candidates
 put_other : {V : Type 0} (m n : List (Option V) × List (Option V)) (r q : Requirement) (x : V) → PutsAt m n r x → (q ≡ r) ⊎ (slot_of n q ≡ slot_of m q)
@@ -63,25 +62,25 @@ no_slot None h = refl
 no_slot (Some x) h = absurd (both_ways true h refl)
 
 -- where a requirement without candidates got some
-pub sound_fixed : {N : Type 0} (r : Requirement) (given : Vec (Candidate N) Global) (old new : FixedLists N) (q : DecideQueue N) → has_candidates old r ≡ false → FixesCandidates r given old new → IsSound old q → IsSound new q
+pub sound_fixed : {N : Type 0} (r : Requirement) (given : List (Candidate N)) (old new : FixedLists N) (q : DecideQueue N) → has_candidates old r ≡ false → FixesCandidates r given old new → IsSound old q → IsSound new q
 sound_fixed {N} r given old new q fresh fixes = sound_more old new q same
   where
     same : (p : Requirement) → 0 < length (candidates_in old p) → candidates_in new p ≡ candidates_in old p
     same p some = elim (put_other old.candidates new.candidates r p given fixes.put) [
-      | inl is ↦ (let none : length (candidates_in old p) ≡ 0 = ap (λ x. length (items_or_none x)) (ap (slot_of old.candidates) is ∙ no_slot (slot_of old.candidates r) fresh) in absurd (omega (arith, some, none)))
-      | inr is ↦ ap items_or_none is
+      | inl is ↦ (let none : length (candidates_in old p) ≡ 0 = ap (λ x. length (list_or_none x)) (ap (slot_of old.candidates) is ∙ no_slot (slot_of old.candidates r) fresh) in absurd (omega (arith, some, none)))
+      | inr is ↦ ap list_or_none is
     ]
 
 -- so it is where the lists were changed, or the change was refused
-pub sound_tried : {N E : Type 0} (res : Result Unit E) (r : Requirement) (given : Vec (Candidate N) Global) (old new : FixedLists N) (q : DecideQueue N) → has_candidates old r ≡ false → OnOk res (FixesCandidates r given old new) → OnErr res (new ≡ old) → IsSound old q → IsSound new q
+pub sound_tried : {N E : Type 0} (res : Result Unit E) (r : Requirement) (given : List (Candidate N)) (old new : FixedLists N) (q : DecideQueue N) → has_candidates old r ≡ false → OnOk res (FixesCandidates r given old new) → OnErr res (new ≡ old) → IsSound old q → IsSound new q
 sound_tried (Ok u) r given old new q fresh ok err h = sound_fixed r given old new q fresh ok h
 sound_tried {N} (Err w) r given old new q fresh ok err h = subst (λ (ls : FixedLists N). IsSound ls q) (sym err) h
 
-pub sound_disjunction : {N E : Type 0} (res : Result (DenseId DisjunctionTag ℕ) E) (given : Disjunction) (old new : FixedLists N) (q : DecideQueue N) → IfOk res (λ id. FixesDisjunction id.raw given old new) → OnErr res (new ≡ old) → IsSound old q → IsSound new q
+pub sound_disjunction : {N E : Type 0} (res : Result (DenseId DisjunctionTag ℕ) E) (given : List Signed) (old new : FixedLists N) (q : DecideQueue N) → IfOk res (λ id. FixesDisjunction id.raw given old new) → OnErr res (new ≡ old) → IsSound old q → IsSound new q
 sound_disjunction (Ok id) given old new q ok err h = sound_same old new q ok.candidates h
 sound_disjunction {N} (Err w) given old new q ok err h = subst (λ (ls : FixedLists N). IsSound ls q) (sym err) h
 
-pub sound_learnt : {N E : Type 0} (res : Result (DenseId LearntClauseTag ℕ) E) (given : Vec Signed Global) (old new : FixedLists N) (q : DecideQueue N) → IfOk res (λ id. FixesLearnt id.raw given old new) → OnErr res (new ≡ old) → IsSound old q → IsSound new q
+pub sound_learnt : {N E : Type 0} (res : Result (DenseId LearntClauseTag ℕ) E) (given : List Signed) (old new : FixedLists N) (q : DecideQueue N) → IfOk res (λ id. FixesLearnt id.raw given old new) → OnErr res (new ≡ old) → IsSound old q → IsSound new q
 sound_learnt (Ok id) given old new q ok err h = sound_same old new q ok.candidates h
 sound_learnt {N} (Err w) given old new q ok err h = subst (λ (ls : FixedLists N). IsSound ls q) (sym err) h
 
@@ -89,7 +88,7 @@ sound_learnt {N} (Err w) given old new q ok err h = subst (λ (ls : FixedLists N
 pub can_fix_fresh : {N S : Type 0} (score : S → N → ℕ) (k : Kept N S) (r : Requirement) (groups : List (N × Vec VariableId Global)) → can_fix (plain score k) r groups ≡ true → has_candidates k.lists r ≡ false
 can_fix_fresh {N} score k r groups h = go (slot_of k.lists.candidates r) (and_parts _ _ h).0
   where
-    go : (o : Option (Vec (Candidate N) Global)) → not (is_some (option_map (λ v. v.items) o)) ≡ true → is_some o ≡ false
+    go : (o : Option (List (Candidate N))) → not (is_some o) ≡ true → is_some o ≡ false
     go None e = refl
     go (Some v) e = absurd (both_ways false refl e)
 

@@ -1,6 +1,6 @@
 -- A clause store as plain lists and functions.
 use Rattle.std.specs.Prelude.{◌≡◌, ℕ, ◌≤◌, false, List, [], ◌∷◌, map, Option, Some, None, slice_get}
-use Rattle.std.specs.Option.{option_map, unwrap_or}
+use Rattle.std.specs.Option.{unwrap_or}
 use Rattle.resolvo_pool_core.specs.declared.id.ClauseId.{ClauseId}
 use Rattle.resolvo_pool_core.specs.declared.id.DenseId.{DenseId}
 use Rattle.resolvo_pool_core.specs.declared.id.DisjunctionTag.{DisjunctionTag}
@@ -85,9 +85,9 @@ pub record Kept (N S : Type 0) : Type 0 where
 -- the fields as plain lists
 abbrev pub plain : {N S : Type 0} → (S → N → ℕ) → Kept N S → Stored N
 plain score_of k = record {
-  candidates = λ r. option_map (λ v. v.items) (slot_of k.lists.candidates r);
-  disjunctions = map (λ d. d.literals.items) k.lists.disjunctions;
-  learnt = map (λ v. v.items) k.lists.learnt;
+  candidates = λ r. slot_of k.lists.candidates r;
+  disjunctions = k.lists.disjunctions;
+  learnt = k.lists.learnt;
   clauses = k.clauses;
   watched = k.watched;
   watchers = watchers k.watches;

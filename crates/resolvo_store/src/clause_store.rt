@@ -133,7 +133,8 @@ impl<N: SolverId + Drop> ClauseStore<N> {
         ensures ids { IsErrOf result Ids → index_in requirement ≡ 4294967295 }
     {
         let candidates = candidates_of(self.alloc, groups)?;
-        self.lists.fix_candidates(requirement, candidates)
+        self.lists
+            .fix_candidates(requirement, candidates.as_slice())
     }
 
     /// Adds the literals of a condition's case. The first case has number 0.

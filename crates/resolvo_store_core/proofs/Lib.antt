@@ -3,6 +3,7 @@ pub mod ClauseLists
 pub mod ClauseValues
 pub mod Digits
 pub mod LinkLemmas
+pub mod PlaceLemmas
 pub mod Rooms
 pub mod Seconds
 pub mod SmallSets

@@ -3,6 +3,7 @@ pub mod ClauseParts
 pub mod Clauses
 pub mod Links
 pub mod Lists
+pub mod Places
 pub mod Pairs
 pub mod ReadClause
 pub mod SignLaws

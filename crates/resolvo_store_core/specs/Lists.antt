@@ -8,17 +8,16 @@ use Rattle.resolvo_pool_core.specs.declared.id.LearntClauseTag.{LearntClauseTag}
 use Rattle.resolvo_pool_core.specs.ByRequirement.{slot_of, PutsAt}
 use Rattle.resolvo_store_core.specs.Signed.{Signed}
 use Rattle.resolvo_store_core.specs.declared.lists.Candidate.{Candidate}
-use Rattle.resolvo_store_core.specs.declared.lists.Disjunction.{Disjunction}
 use Rattle.resolvo_store_core.specs.declared.lists.FixedLists.{FixedLists}
 
 abbrev pub items_or_none : {X : Type 0} → Option (Vec X Global) → List X
 items_or_none None = []
 items_or_none (Some v) = v.items
 
--- the literals of a disjunction, if it is there
-abbrev pub literals_or_none : Option Disjunction → List Signed
-literals_or_none None = []
-literals_or_none (Some d) = d.literals.items
+-- a list, or none
+abbrev pub list_or_none : {X : Type 0} → Option (List X) → List X
+list_or_none None = []
+list_or_none (Some xs) = xs
 
 -- the requirement has candidates
 abbrev pub has_candidates : {N : Type 0} → FixedLists N → Requirement → Bool
@@ -26,7 +25,7 @@ has_candidates ls r = is_some (slot_of ls.candidates r)
 
 -- the candidates of a requirement, in order; none before they are set
 abbrev pub candidates_in : {N : Type 0} → FixedLists N → Requirement → List (Candidate N)
-candidates_in ls r = items_or_none (slot_of ls.candidates r)
+candidates_in ls r = list_or_none (slot_of ls.candidates r)
 
 abbrev pub disjunction_count : {N : Type 0} → FixedLists N → ℕ
 disjunction_count ls = length ls.disjunctions
@@ -36,11 +35,11 @@ learnt_count ls = length ls.learnt
 
 -- the literals of a disjunction
 abbrev pub disjunction_in : {N : Type 0} → FixedLists N → DenseId DisjunctionTag ℕ → List Signed
-disjunction_in ls d = literals_or_none (slice_get ls.disjunctions d.raw)
+disjunction_in ls d = list_or_none (slice_get ls.disjunctions d.raw)
 
 -- the literals of a learnt clause
 abbrev pub learnt_in : {N : Type 0} → FixedLists N → DenseId LearntClauseTag ℕ → List Signed
-learnt_in ls l = items_or_none (slice_get ls.learnt l.raw)
+learnt_in ls l = list_or_none (slice_get ls.learnt l.raw)
 
 -- the literals of a condition's case, if there is a condition
 abbrev pub condition_in : {N : Type 0} → FixedLists N → Option (DenseId DisjunctionTag ℕ) → List Signed
@@ -81,20 +80,20 @@ pub record IsEmpty {N : Type 0} (ls : FixedLists N) : Type 0 where
   pub learnt : ls.learnt ≡ []
 
 -- the requirement has these candidates now
-pub record FixesCandidates {N : Type 0} (r : Requirement) (given : Vec (Candidate N) Global) (old new : FixedLists N) : Type 0 where
+pub record FixesCandidates {N : Type 0} (r : Requirement) (given : List (Candidate N)) (old new : FixedLists N) : Type 0 where
   pub put : PutsAt old.candidates new.candidates r given
   pub disjunctions : new.disjunctions ≡ old.disjunctions
   pub learnt : new.learnt ≡ old.learnt
 
 -- the disjunction was added under this number
-pub record FixesDisjunction {N : Type 0} (number : ℕ) (given : Disjunction) (old new : FixedLists N) : Type 0 where
+pub record FixesDisjunction {N : Type 0} (number : ℕ) (given : List Signed) (old new : FixedLists N) : Type 0 where
   pub next : number ≡ length old.disjunctions
   pub put : new.disjunctions ≡ old.disjunctions ++ given ∷ []
   pub candidates : new.candidates ≡ old.candidates
   pub learnt : new.learnt ≡ old.learnt
 
 -- the learnt literals were added under this number
-pub record FixesLearnt {N : Type 0} (number : ℕ) (given : Vec Signed Global) (old new : FixedLists N) : Type 0 where
+pub record FixesLearnt {N : Type 0} (number : ℕ) (given : List Signed) (old new : FixedLists N) : Type 0 where
   pub next : number ≡ length old.learnt
   pub put : new.learnt ≡ old.learnt ++ given ∷ []
   pub candidates : new.candidates ≡ old.candidates

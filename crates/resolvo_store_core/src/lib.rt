@@ -5,6 +5,7 @@
 #![tactic(auto)]
 
 pub mod binary_encoding;
+mod candidate_lists;
 pub mod conditions;
 pub mod decision;
 pub mod decision_map;

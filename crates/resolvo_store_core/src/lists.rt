@@ -8,10 +8,11 @@ ghost use Rattle.resolvo_store_core.specs.Signed.{Signed};
 ghost use Rattle.resolvo_store_core.specs.Lists.{candidates_in, disjunction_in, condition_in, learnt_in, has_candidates, has_disjunction, names_disjunction, has_learnt, disjunction_count, learnt_count, IsEmpty, FixesCandidates, FixesDisjunction, FixesLearnt};
 ghost use Rattle.resolvo_store_core.specs.ReadClause.{listed};
 
+use crate::candidate_lists::CandidateLists;
 use crate::literal::Literal;
-use resolvo_pool_core::arena::Arena;
-use resolvo_pool_core::id::{DenseIndex, DisjunctionId, LearntClauseId};
-use resolvo_pool_core::requirement::{Requirement, RequirementMap};
+use resolvo_pool_core::flat_lists::FlatLists;
+use resolvo_pool_core::id::{DenseIndex, DisjunctionId, LearntClauseId, next_index};
+use resolvo_pool_core::requirement::Requirement;
 use resolvo_pool_core::want::R;
 use std::alloc::Global;
 
@@ -32,9 +33,9 @@ pub struct Disjunction {
 /// The lists that clauses name.
 #[derive(Drop)]
 pub struct FixedLists<N> {
-    candidates: RequirementMap<Vec<Candidate<N>>>,
-    disjunctions: Arena<DisjunctionId, Disjunction>,
-    learnt: Arena<LearntClauseId, Vec<Literal>>,
+    candidates: CandidateLists<N>,
+    disjunctions: FlatLists<Literal>,
+    learnt: FlatLists<Literal>,
 }
 
 impl<N: Copy + Drop> FixedLists<N> {
@@ -44,42 +45,42 @@ impl<N: Copy + Drop> FixedLists<N> {
         ensures refusal { IsOkUnless result Memory }
     {
         Ok(FixedLists {
-            candidates: RequirementMap::new(alloc)?,
-            disjunctions: Arena::new(alloc),
-            learnt: Arena::new(alloc),
+            candidates: CandidateLists::new(alloc)?,
+            disjunctions: FlatLists::new(alloc),
+            learnt: FlatLists::new(alloc),
         })
     }
 
     /// Sets the candidates of a requirement.
-    pub fn fix_candidates(
-        &mut self,
-        requirement: Requirement,
-        candidates: Vec<Candidate<N>>,
-    ) -> R<()>
-        ensures fixed { OnOk result (FixesCandidates requirement candidates self.old self.new) }
+    pub fn fix_candidates(&mut self, requirement: Requirement, candidates: &[Candidate<N>]) -> R<()>
+        ensures fixed { OnOk result
+            (FixesCandidates requirement candidates.now self.old self.new) }
         ensures err { OnErr result (self.new ≡ self.old) }
         ensures ids { IsErrOf result Ids → index_in requirement ≡ 4294967295 }
     {
-        self.candidates.insert(requirement, candidates)?;
+        self.candidates.set(requirement, candidates)?;
         Ok(())
     }
 
     /// Adds a disjunction.
     pub fn fix_disjunction(&mut self, disjunction: Disjunction) -> R<DisjunctionId>
-        ensures fixed { IfOk result (λ id. FixesDisjunction id.raw disjunction self.old self.new) }
+        ensures fixed { IfOk result
+            (λ id. FixesDisjunction id.raw disjunction.literals.items self.old self.new) }
         ensures err { OnErr result (self.new ≡ self.old) }
         ensures ids { IsErrOf result Ids → disjunction_count self.old ≡ 4294967295 }
     {
-        self.disjunctions.alloc(disjunction)
+        let number = push_numbered(&mut self.disjunctions, disjunction.literals.as_slice())?;
+        Ok(DisjunctionId::from_index(number))
     }
 
     /// Adds the literals of a learnt clause.
     pub fn fix_learnt(&mut self, literals: Vec<Literal>) -> R<LearntClauseId>
-        ensures fixed { IfOk result (λ id. FixesLearnt id.raw literals self.old self.new) }
+        ensures fixed { IfOk result (λ id. FixesLearnt id.raw literals.items self.old self.new) }
         ensures err { OnErr result (self.new ≡ self.old) }
         ensures ids { IsErrOf result Ids → learnt_count self.old ≡ 4294967295 }
     {
-        self.learnt.alloc(literals)
+        let number = push_numbered(&mut self.learnt, literals.as_slice())?;
+        Ok(LearntClauseId::from_index(number))
     }
 
     /// The candidates of a requirement, if they were set.
@@ -89,10 +90,7 @@ impl<N: Copy + Drop> FixedLists<N> {
             (has_candidates self.now requirement ≡ true)
             × (cs.now ≡ candidates_in self.now requirement)) }
     {
-        match self.candidates.get(requirement) {
-            Some(list) => Some(list.as_slice()),
-            None => None,
-        }
+        self.candidates.get(requirement)
     }
 
     /// The literals of a disjunction.
@@ -100,7 +98,7 @@ impl<N: Copy + Drop> FixedLists<N> {
         requires { id.raw < disjunction_count self.now }
         ensures { result.now ≡ disjunction_in self.now id }
     {
-        self.disjunctions[id].literals.as_slice()
+        self.disjunctions.get(id.to_index())
     }
 
     /// The literals of a condition's case, if there is a condition and the case was added.
@@ -138,6 +136,19 @@ impl<N: Copy + Drop> FixedLists<N> {
         requires { id.raw < learnt_count self.now }
         ensures { result.now ≡ learnt_in self.now id }
     {
-        self.learnt[id].as_slice()
+        self.learnt.get(id.to_index())
     }
+}
+
+/// Adds a list under a new number.
+fn push_numbered(lists: &mut FlatLists<Literal>, list: &[Literal]) -> R<usize>
+    ensures number { IfOk result (λ n. (n ≡ length lists.old) × (n < 4294967295)) }
+    ensures put { OnOk result (lists.new ≡ lists.old ++ list.now ∷ []) }
+    ensures err { OnErr result (lists.new ≡ lists.old) }
+    ensures ids { IsErrOf result Ids → length lists.old ≡ 4294967295 }
+{
+    lists.are_few();
+    let number = next_index(lists.len())?;
+    lists.push(list)?;
+    Ok(number)
 }

@@ -1,6 +1,6 @@
-use Rattle.std.proofs.Common.{inl, ◌∙◌, rules}
+use Rattle.std.proofs.Common.{List, inl, ◌∙◌, rules}
 use Rattle.resolvo_sat.specs.RuleClauses.{IsExact}
-use Rattle.resolvo_store_core.specs.declared.lists.Disjunction.{Disjunction}
+use Rattle.resolvo_store_core.specs.Signed.{Signed}
 use Rattle.resolvo_encoder.specs.Steps.{LacksNumberFor}
 use Rattle.resolvo_encoder.proofs.EnrollLemmas.{built_fixes}
 use Rattle.resolvo_encoder.proofs.FireLemmas.{EncodesCase, case_in_range, case_extends, case_adds, case_built, case_encoded}
@@ -12,7 +12,7 @@ parent_variable-requires g c = built_fixes g.S.PartialEq.eq c.args.need.requirem
 
 pub encode_case-requires-clause-in_range : goal.encode_case-requires-clause-in_range
 encode_case-requires-clause-in_range g c =
-    let given : Disjunction = record { literals = c.in_ok-literals.literals } in
+    let given : List Signed = c.in_ok-literals.literals.items in
     let negates = c.in_ok-literals.ensures.at_least_one in
     case_in_range c.add_each_at_least_one.new.self c.args.parent c.in_ok-variable.variable c.in_ok-condition.condition given c.fix_disjunction.new.self c.args.need.requirement negates.built c.in_ok-condition.ensures.fixed
     (parent_variable_grows c.parent_variable.new.self c.add_each_at_least_one.new.self c.args.parent c.in_ok-variable.variable negates.extends c.in_ok-variable.ensures.present) negates.in_range
@@ -20,7 +20,7 @@ encode_case-requires-clause-in_range g c =
 pub returns : goal.returns
 returns g c =
     let exact : IsExact g.S.PartialEq.eq = record { one = g.met.S.Exact.exact; own = g.met.S.Eq.laws.refl } in
-    let given : Disjunction = record { literals = c.in_ok-literals.literals } in
+    let given : List Signed = c.in_ok-literals.literals.items in
     let new_clause : EncodesCase g.S.PartialEq.eq c.args.parent c.args.need c.args.sets.now c.args.offered.now c.args.self.now c.encode_case.new.self = record {
       fixed = c.fix_candidates.new.self;
       named = c.parent_variable.new.self;

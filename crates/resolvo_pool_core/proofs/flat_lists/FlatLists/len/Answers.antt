@@ -1,4 +1,4 @@
-use Rattle.std.proofs.Common.{◌≡◌, List, length, ap, arith}
+use Rattle.std.proofs.Common.{◌≡◌, length, ap, arith}
 use Rattle.resolvo_pool_core.specs.Flat.{lists_in}
 use Rattle.resolvo_pool_core.proofs.FlatLemmas.{lists_count}
 use Rattle.resolvo_pool_core.proofs.flat_lists.FlatLists.len.Goals as goal

@@ -1,4 +1,4 @@
-use Rattle.std.proofs.Common.{◌≡◌, ◌∷◌, ◌++◌, [], List, map, option_map, Option, None, sym, ◌∙◌, ap, subst, arith}
+use Rattle.std.proofs.Common.{◌≡◌, ◌∷◌, ◌++◌, [], List, Option, None, sym, ◌∙◌, ap, subst, arith}
 use Rattle.resolvo_store_core.specs.declared.watched_literals.WatchedLiterals.{WatchedLiterals}
 use Rattle.resolvo_store_core.specs.declared.store_clause.Clause.TheVariants.{InstallRoot}
 use Rattle.resolvo_store_core.specs.Trail.{Tracked}
@@ -18,9 +18,9 @@ invariant_of-result g c =
 
 pub returns-clause-store : goal.returns-clause-store
 returns-clause-store g c = record {
-  candidates = λ r. ap (λ o. option_map (λ v. v.items) o) (c.in_ok-new.ensures.empty.candidates r);
-  disjunctions = ap (map (λ d. d.literals.items)) c.in_ok-new.ensures.empty.disjunctions;
-  learnt = ap (map (λ v. v.items)) c.in_ok-new.ensures.empty.learnt;
+  candidates = c.in_ok-new.ensures.empty.candidates;
+  disjunctions = c.in_ok-new.ensures.empty.disjunctions;
+  learnt = c.in_ok-new.ensures.empty.learnt;
   clauses = c.in_ok-push.ensures.items ∙ ap (λ cs. cs ++ InstallRoot ∷ []) c.new-clauses.ensures.items;
   watched = c.in_ok-push-2.ensures.items ∙ ap (λ (ps : List (Option WatchedLiterals)). ps ++ None ∷ []) c.new-watched.ensures.items;
   watchers = c.new-2.ensures.empty;
