@@ -3,8 +3,8 @@ use Rattle.std.proofs.Common.{◌≡◌, ◌∙◌, ℕ, zero, suc, ◌+◌, ◌
 use Rattle.std.specs.Prelude.{slice_get}
 use Rattle.std.specs.List.{slice_range}
 use Rattle.std.proofs.lemmas.Option.{slice_get-get_or}
-use Rattle.std.proofs.lemmas.List.{drop-append-le, take-append-le, length-append, length-drop, take_all}
-use Rattle.std.proofs.Math.Seq.{drop-append_seam}
+use Rattle.std.proofs.lemmas.List.{drop-append-le, take-append-le, take-append-drop, length-append, length-drop, length-take-le, take_all}
+use Rattle.std.proofs.Math.Seq.{drop-append_seam, take-append_seam}
 use Rattle.resolvo_pool_core.specs.Flat.{lists_from, lists_in, AreRising, AreEnds}
 
 -- a range within a list is the same where more follows
@@ -22,7 +22,7 @@ range_added {X} xs more =
 -- ---- ends that rise
 
 -- where the list of a number begins, the first beginning here
-abbrev begin_from : ℕ → List ℕ → ℕ → ℕ
+abbrev pub begin_from : ℕ → List ℕ → ℕ → ℕ
 begin_from b ends zero = b
 begin_from b [] (suc n) = b
 begin_from b (e ∷ ends) (suc n) = begin_from e ends n
@@ -57,7 +57,7 @@ begin_read b (q ∷ ends) zero d h = refl
 begin_read b (q ∷ ends) (suc n) d h = begin_read q ends n d (omega arith)
 
 -- what a number begins at, where it is the first one, and where it isn't
-begin_is : (ends : List ℕ) (n b : ℕ) → (n ≡ 0 → b ≡ 0) → (0 < n → b ≡ get_or ends (n - 1) 0) → n ≤ length ends → b ≡ begin_from 0 ends n
+pub begin_is : (ends : List ℕ) (n b : ℕ) → (n ≡ 0 → b ≡ 0) → (0 < n → b ≡ get_or ends (n - 1) 0) → n ≤ length ends → b ≡ begin_from 0 ends n
 begin_is ends zero b first later few = first refl
 begin_is ends (suc n) b first later few =
     let before : suc n - 1 ≡ n = omega arith in
@@ -132,3 +132,37 @@ module _ {T : Type 0} (items more grown : List T) (ends longer : List ℕ) (p : 
         counted = omega (arith, ap length put, length-append ends (p ∷ []), next);
         rising = rw (long, put) (rising_pushed (length items) 0 p ends are.rising (omega (arith, to)));
       }
+
+-- ---- the last list taken away
+
+-- the ends before the last one rise up to the last of them
+rising_before : (l b p : ℕ) (ends : List ℕ) → AreRising l b (ends ++ p ∷ []) → AreRising (begin_from b ends (length ends)) b ends × (begin_from b ends (length ends) ≤ l)
+rising_before l b p [] are = let last : p ≡ l = are.1 in (refl, omega (arith, are.0, last))
+rising_before l b p (e ∷ ends) are = let (rising, most) = rising_before l e p ends are.1 in ((are.0, rising), most)
+
+module _ {T : Type 0} (items left : List T) (longer ends : List ℕ) (p m : ℕ) (are : AreEnds items longer) (last : longer ≡ ends ++ p ∷ []) (from : m ≡ begin_from 0 ends (length ends)) (cut : left ≡ take m items) where
+  rising_left : AreRising m 0 ends × (m ≤ length items)
+  rising_left = rw from (rising_before (length items) 0 p ends (subst (λ (qs : List ℕ). AreRising (length items) 0 qs) last are.rising))
+
+  length_left : length left ≡ m
+  length_left = ap length cut ∙ length-take-le m items rising_left.1
+
+  pub ends_popped : AreEnds left ends
+  ends_popped = record {
+    few = omega (arith, length_left, rising_left.1, are.few);
+    counted = omega (arith, ap length last, length-append ends (p ∷ []), are.counted);
+    rising = rw length_left rising_left.0;
+  }
+
+  pub list_popped : lists_in left ends ≡ take (length (lists_in items longer) - 1) (lists_in items longer)
+  list_popped =
+      let whole : left ++ drop m items ≡ items = rw cut (take-append-drop m items) in
+      let stay : lists_in items ends ≡ lists_in left ends = subst (λ (xs : List T). lists_in xs ends ≡ lists_in left ends) whole (lists_stay left (drop m items) 0 ends ends_popped.rising) in
+      let gone : List T = slice_range items (begin_from 0 ends (length ends)) p in
+      let before : lists_in items longer ≡ lists_in left ends ++ gone ∷ [] = ap (λ (qs : List ℕ). lists_in items qs) last ∙ (lists_append items 0 ends p ∙ ap (λ (ls : List (List T)). ls ++ gone ∷ []) stay) in
+      sym (ap (λ (ls : List (List T)). take (length ls - 1) ls) before ∙ take_before (lists_in left ends) gone)
+    where
+      take_before : (xs : List (List T)) (x : List T) → take (length (xs ++ x ∷ []) - 1) (xs ++ x ∷ []) ≡ xs
+      take_before xs x =
+          let count : length (xs ++ x ∷ []) - 1 ≡ length xs = omega (arith, length-append xs (x ∷ [])) in
+          rw count (take-append_seam xs (x ∷ []))

@@ -1,6 +1,6 @@
 //! Lists one after the other in one vector, in the order in which they are added. The model is the
 //! list of them. None has memory of its own.
-ghost use Rattle.std.specs.Prelude.{◌≡◌, ◌<◌, ◌≤◌, ◌-◌, ◌++◌, ◌∷◌, [], OnOk, OnErr, IsOkUnless, length, slice_get, slice_index_or, Some};
+ghost use Rattle.std.specs.Prelude.{◌≡◌, ◌<◌, ◌≤◌, ◌-◌, ◌++◌, ◌∷◌, [], OnOk, OnErr, IsOkUnless, length, slice_get, slice_index_or, take, Some};
 ghost use Rattle.resolvo_pool_core.specs.declared.want.Want.TheVariants.{Memory};
 
 use crate::want::{R, Want};
@@ -87,6 +87,18 @@ impl<T> FlatLists<T> {
         self.items.extend_from_slice(list)?;
         self.ends.push_reserved(end as u32);
         Ok(())
+    }
+
+    /// Takes the last list away.
+    pub fn pop(&mut self)
+    where
+        T: Copy,
+        requires { 0 < length self.old }
+        ensures { self.new ≡ take (length self.old - 1) self.old }
+    {
+        self.ends.pop();
+        let begin = begin_of(&self.ends, self.ends.len());
+        self.items.truncate(begin as usize);
     }
 }
 
