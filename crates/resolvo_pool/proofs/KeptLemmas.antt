@@ -4,14 +4,14 @@ use Rattle.std.specs.Prelude.{Option, None, Some, ⊤, MatchOption, All, unwrap_
 use Rattle.std.specs.Global.{Vec}
 use Rattle.std.specs.List.{flat_map}
 use Rattle.std.specs.Map.{lookup, keys_of}
-use Rattle.std.specs.Option.{is_some, option_map}
+use Rattle.std.specs.Option.{is_some}
 use Rattle.std.proofs.lemmas.List.{take_more}
 use Rattle.std.proofs.lemmas.Grind.{flat_map-append}
 use Rattle.std.proofs.lemmas.Bool.{eqb-true, false≢true}
-use Rattle.std.proofs.lemmas.Map.Made.{is_some-lookup, lookup-map_values}
+use Rattle.std.proofs.lemmas.Map.Made.{is_some-lookup}
 use Rattle.resolvo_pool_core.specs.declared.id.VersionSetId.{VersionSetId}
 use Rattle.resolvo_pool_core.specs.declared.id.VersionSetUnionId.{VersionSetUnionId}
-use Rattle.resolvo_pool.specs.Cached.{IsKept, same_set, same_union, among, Cached, Extends, AddsSorted, lists_of, is_sorted, sorted_of, IsUnionList}
+use Rattle.resolvo_pool.specs.Cached.{IsKept, same_set, same_union, among, Cached, Extends, AddsSorted, is_sorted, sorted_of, IsUnionList}
 
 Match-cond : {V : Type 0} (b : Bool) (P : V → Type 0) (w : V) (o : Option V) → (b ≡ true → P w) → MatchOption o ⊤ P → MatchOption (cond b (Some w) o) ⊤ P
 Match-cond true P w o p h = p refl
@@ -91,58 +91,42 @@ flat_map_same f g (x ∷ xs) h =
     rw (first, flat_map_same f g xs (λ k d l. h (suc k) d (omega arith))) refl
 
 module _ {S : Type 0} where
-  -- the lists of a map of vectors, looked up
-  pub lists-lookup : (es : List (VersionSetId × Vec S)) (v : VersionSetId) → lookup (same_set v) (lists_of es) ≡ option_map (λ w. w.items) (lookup (same_set v) es)
-  lists-lookup es v = lookup-map_values (λ w. w.items) (same_set v) es
-
-  pub list_found : (es : List (VersionSetId × Vec S)) (v : VersionSetId) (w : Vec S) → lookup (same_set v) es ≡ Some w → lookup (same_set v) (lists_of es) ≡ Some w.items
-  list_found es v w e = lists-lookup es v ∙ ap (option_map (λ u. u.items)) e
-
-  some-mapped : (o : Option (Vec S)) → is_some (option_map (λ w. w.items) o) ≡ is_some o
-  some-mapped None = refl
-  some-mapped (Some w) = refl
-
-  pub is_sorted-lookup : (es : List (VersionSetId × Vec S)) (v : VersionSetId) → is_sorted (lists_of es) v ≡ is_some (lookup (same_set v) es)
-  is_sorted-lookup es v = ap is_some (lists-lookup es v) ∙ some-mapped (lookup (same_set v) es)
-
   -- a list that is sorted is found
-  pub not_unsorted : (es : List (VersionSetId × Vec S)) (v : VersionSetId) → is_sorted (lists_of es) v ≡ true → lookup (same_set v) es ≡ None → ⊥
-  not_unsorted es v h e = false≢true (ap is_some (sym e) ∙ (sym (is_sorted-lookup es v) ∙ h))
+  pub not_unsorted : (es : List (VersionSetId × List S)) (v : VersionSetId) → is_sorted es v ≡ true → lookup (same_set v) es ≡ None → ⊥
+  not_unsorted es v h e = false≢true (ap is_some (sym e) ∙ h)
 
   -- a property of each list in the cache is one of a version set's list
-  pub sorted_at : (P : VersionSetId → List S → Type 0) (es : List (VersionSetId × Vec S)) (v : VersionSetId) → IsKept same_set (λ q w. P q w.items) es → is_sorted (lists_of es) v ≡ true → P v (sorted_of (lists_of es) v)
-  sorted_at P es v kept h = rw (lists-lookup es v) (go (lookup (same_set v) es) (sym (is_sorted-lookup es v) ∙ h) (kept v))
+  pub sorted_at : (P : VersionSetId → List S → Type 0) (es : List (VersionSetId × List S)) (v : VersionSetId) → IsKept same_set P es → is_sorted es v ≡ true → P v (sorted_of es v)
+  sorted_at P es v kept h = go (lookup (same_set v) es) h (kept v)
     where
-      go : (o : Option (Vec S)) → is_some o ≡ true → MatchOption o ⊤ (λ w. P v w.items) → P v (unwrap_or (option_map (λ w. w.items) o) [])
+      go : (o : Option (List S)) → is_some o ≡ true → MatchOption o ⊤ (P v) → P v (unwrap_or o [])
       go None i t = absurd (false≢true i)
-      go (Some w) i t = t
+      go (Some xs) i t = t
 
-  module _ (es fs : List (VersionSetId × Vec S)) (k : VersionSetId) (w : Vec S) (absent : is_some (lookup (same_set k) es) ≡ false) (updates : (q : VersionSetId) → lookup (same_set q) fs ≡ cond (same_set k q) (Some w) (lookup (same_set q) es)) where
+  module _ (es fs : List (VersionSetId × List S)) (k : VersionSetId) (w : List S) (absent : is_some (lookup (same_set k) es) ≡ false) (updates : (q : VersionSetId) → lookup (same_set q) fs ≡ cond (same_set k q) (Some w) (lookup (same_set q) es)) where
     -- a sorted list stays as another is put in
-    pub sorted_stays : (v : VersionSetId) (xs : List S) → lookup (same_set v) (lists_of es) ≡ Some xs → lookup (same_set v) (lists_of fs) ≡ Some xs
-    sorted_stays v xs h =
-        lists-lookup fs v ∙ (ap (option_map (λ u. u.items)) (updates v) ∙ go (same_set k v) refl (sym (lists-lookup es v) ∙ h))
+    pub sorted_stays : (v : VersionSetId) (xs : List S) → lookup (same_set v) es ≡ Some xs → lookup (same_set v) fs ≡ Some xs
+    sorted_stays v xs h = updates v ∙ go (same_set k v) refl
       where
-        go : (b : Bool) → same_set k v ≡ b → option_map (λ u. u.items) (lookup (same_set v) es) ≡ Some xs → option_map (λ u. u.items) (cond b (Some w) (lookup (same_set v) es)) ≡ Some xs
-        go false e i = i
-        go true e i =
-            let here : is_some (lookup (same_set v) es) ≡ true = sym (some-mapped (lookup (same_set v) es)) ∙ ap is_some i in
-            let there = rw (← same_set_exact k v e) at here in
+        go : (b : Bool) → same_set k v ≡ b → cond b (Some w) (lookup (same_set v) es) ≡ Some xs
+        go false e = h
+        go true e =
+            let there : is_some (lookup (same_set k) es) ≡ true = rw (same_set_exact k v e) (ap is_some h) in
             absurd (false≢true (sym absent ∙ there))
 
-    still_sorted : (v : VersionSetId) → is_sorted (lists_of es) v ≡ true → (is_sorted (lists_of fs) v ≡ true) × (sorted_of (lists_of fs) v ≡ sorted_of (lists_of es) v)
-    still_sorted v h = go (lookup (same_set v) (lists_of es)) refl h
+    still_sorted : (v : VersionSetId) → is_sorted es v ≡ true → (is_sorted fs v ≡ true) × (sorted_of fs v ≡ sorted_of es v)
+    still_sorted v h = go (lookup (same_set v) es) refl h
       where
-        go : (o : Option (List S)) → lookup (same_set v) (lists_of es) ≡ o → is_some o ≡ true → (is_some (lookup (same_set v) (lists_of fs)) ≡ true) × (unwrap_or (lookup (same_set v) (lists_of fs)) [] ≡ unwrap_or (lookup (same_set v) (lists_of es)) [])
+        go : (o : Option (List S)) → lookup (same_set v) es ≡ o → is_some o ≡ true → (is_some (lookup (same_set v) fs) ≡ true) × (unwrap_or (lookup (same_set v) fs) [] ≡ unwrap_or (lookup (same_set v) es) [])
         go None e i = absurd (false≢true i)
         go (Some xs) e i =
             let f = sorted_stays v xs e in
             (ap is_some f, ap (λ o. unwrap_or o []) f ∙ sym (ap (λ o. unwrap_or o []) e))
 
     -- and so does the list of a union
-    pub union_stays : (members_of : VersionSetUnionId → List VersionSetId) (u : VersionSetUnionId) (xs : Vec S) → IsUnionList members_of (lists_of es) u xs → IsUnionList members_of (lists_of fs) u xs
+    pub union_stays : (members_of : VersionSetUnionId → List VersionSetId) (u : VersionSetUnionId) (xs : Vec S) → IsUnionList members_of es u xs → IsUnionList members_of fs u xs
     union_stays members_of u xs (e, sorted) =
-        (e ∙ flat_map_same (sorted_of (lists_of es)) (sorted_of (lists_of fs)) (members_of u) (λ n d l. sym (still_sorted _ (sorted n d l)).1), λ n d l. (still_sorted _ (sorted n d l)).0)
+        (e ∙ flat_map_same (sorted_of es) (sorted_of fs) (members_of u) (λ n d l. sym (still_sorted _ (sorted n d l)).1), λ n d l. (still_sorted _ (sorted n d l)).0)
 
 -- a sorted list that is kept stays kept
 pub sorted_extends : {P N S : Type 0} (same_name : N → N → Bool) (same : S → S → Bool) (a b : Cached P N S) → Extends same_name same a b → (v : VersionSetId) → is_sorted a.sorted v ≡ true → is_sorted b.sorted v ≡ true

@@ -1,4 +1,5 @@
 pub mod Favoured
 pub mod HintedLemmas
+pub mod IdListLemmas
 pub mod KeptLemmas
 pub mod TableLemmas

@@ -1,5 +1,5 @@
 -- The entries of a cache over a provider.
-use Rattle.std.specs.Prelude.{◌≡◌, ◌==◌, Bool, true, List, [], Option, Some, ⊤, MatchOption, map, unwrap_or, is_some, All}
+use Rattle.std.specs.Prelude.{◌≡◌, ◌==◌, Bool, true, List, [], Option, Some, ⊤, MatchOption, unwrap_or, is_some, All}
 use Rattle.std.specs.Map.{lookup}
 use Rattle.std.specs.List.{list_any, flat_map}
 use Rattle.std.specs.Global.{Vec}
@@ -33,10 +33,6 @@ same_union u w = u.0 == w.0
 abbrev pub among : {K : Type 0} → (K → K → Bool) → List K → K → Bool
 among eq xs x = list_any (eq x) xs
 
--- the lists of a map of vectors
-abbrev pub lists_of : {S : Type 0} → List (VersionSetId × Vec S) → List (VersionSetId × List S)
-lists_of es = map (λ e. (e.0, e.1.items)) es
-
 -- the sorted list of a version set, where it is kept
 abbrev pub sorted_of : {S : Type 0} → List (VersionSetId × List S) → VersionSetId → List S
 sorted_of es v = unwrap_or (lookup (same_set v) es) []
@@ -58,12 +54,12 @@ abbrev pub IsListing : {N S : Type 0} → (N → Option (Listing S)) → N → C
 IsListing candidates_of n c = listing c ≡ listing_or_empty (candidates_of n)
 
 -- a kept list is that of its version set
-abbrev pub IsList : {S : Type 0} → (VersionSetId → List S) → VersionSetId → Vec S → Type 0
-IsList list_of v xs = xs.items ≡ list_of v
+abbrev pub IsList : {S : Type 0} → (VersionSetId → List S) → VersionSetId → List S → Type 0
+IsList list_of v xs = xs ≡ list_of v
 
 -- a sorted list in the cache is one that the provider may return, with the favoured one first
-abbrev pub IsSortedList : {S : Type 0} → (List S → List S → Type 0) → (S → S → Bool) → (VersionSetId → Option S) → (VersionSetId → List S) → VersionSetId → Vec S → Type 0
-IsSortedList sorts eq first list_of v xs = IsTried sorts eq (first v) (list_of v) xs.items
+abbrev pub IsSortedList : {S : Type 0} → (List S → List S → Type 0) → (S → S → Bool) → (VersionSetId → Option S) → (VersionSetId → List S) → VersionSetId → List S → Type 0
+IsSortedList sorts eq first list_of v xs = IsTried sorts eq (first v) (list_of v) xs
 
 -- a kept list of a union is its version sets' sorted lists in order
 abbrev pub IsUnionList : {S : Type 0} → (VersionSetUnionId → List VersionSetId) → List (VersionSetId × List S) → VersionSetUnionId → Vec S → Type 0

@@ -15,6 +15,7 @@ ghost use Rattle.resolvo_pool.specs.declared.cache.CacheFault.TheVariants.{Ids};
 ghost use Rattle.resolvo_pool.specs.Cached.{among, same_set, same_union, sorted_of, has_sorted, is_sorted, Extends, AddsNames, AddsMatching, AddsSorted, IsCancelledBy};
 
 use crate::hinted::put_hinted;
+use crate::id_lists::IdLists;
 use crate::id_table::IdTable;
 use resolvo_pool_core::id::{Exact, VersionSetId, VersionSetUnionId};
 use resolvo_pool_core::id_map::{IdSet, OptionalNumber};
@@ -83,9 +84,9 @@ pub struct SolverCache<D: DependencyProvider> {
     provider: D,
     alloc: Global,
     lists: IdTable<D::NameId, Candidates<D::SolvableId>, <D::NameId as SolverId>::OptionalIds>,
-    matching: HashMap<VersionSetId, Vec<D::SolvableId>>,
-    non_matching: IdTable<VersionSetId, Vec<D::SolvableId>, Vec<OptionalNumber>>,
-    sorted: IdTable<VersionSetId, Vec<D::SolvableId>, Vec<OptionalNumber>>,
+    matching: IdLists<VersionSetId, D::SolvableId, Vec<OptionalNumber>>,
+    non_matching: IdLists<VersionSetId, D::SolvableId, Vec<OptionalNumber>>,
+    sorted: IdLists<VersionSetId, D::SolvableId, Vec<OptionalNumber>>,
     unions: HashMap<VersionSetUnionId, Vec<D::SolvableId>>,
     dependencies: IdTable<D::SolvableId, Dependencies, <D::SolvableId as SolverId>::OptionalIds>,
     hinted: <D::SolvableId as SolverId>::Set,
@@ -96,7 +97,7 @@ impl<D: DependencyProvider> Model for SolverCache<D> {
     ghost use Rattle.std.specs.HashMap.{keys};
     ghost use Rattle.std.specs.Map.{keys_of};
     ghost use Rattle.resolvo_pool_core.specs.Provider.{matching_in, tried_first};
-    ghost use Rattle.resolvo_pool.specs.Cached.{Cached, IsKept, IsListing, IsList, IsSortedList, IsUnionList, IsNeeds, same_set, same_union, lists_of, among};
+    ghost use Rattle.resolvo_pool.specs.Cached.{Cached, IsKept, IsListing, IsList, IsSortedList, IsUnionList, IsNeeds, same_set, same_union, among};
     ghost use Rattle.resolvo_pool.specs.Hinted.{is_hinted, HoldsHinted};
 
     ghost Value = { Cached D D.NameId D.SolvableId };
@@ -105,9 +106,9 @@ impl<D: DependencyProvider> Model for SolverCache<D> {
         record {
           provider = c.provider;
           names = keys_of c.lists;
-          matching = keys c.matching;
+          matching = keys_of c.matching;
           non_matching = keys_of c.non_matching;
-          sorted = lists_of c.sorted;
+          sorted = c.sorted;
           unions = keys c.unions;
           solvables = keys_of c.dependencies;
         } };
@@ -115,14 +116,14 @@ impl<D: DependencyProvider> Model for SolverCache<D> {
     ghost invariant = { λ c.
         IsKept D.NameId.eq (IsListing (D.candidates_of c.provider)) c.lists
         × IsKept same_set (IsList (matching_in (D.name_of_version_set c.provider)
-        (D.candidates_of c.provider) (D.matches c.provider) false)) c.matching.entries
+        (D.candidates_of c.provider) (D.matches c.provider) false)) c.matching
         × IsKept same_set (IsList (matching_in (D.name_of_version_set c.provider)
         (D.candidates_of c.provider) (D.matches c.provider) true)) c.non_matching
         × IsKept same_set (IsSortedList (D.sorts c.provider) D.SolvableId.eq (tried_first
         (D.name_of_version_set c.provider) (D.candidates_of c.provider)) (matching_in
         (D.name_of_version_set c.provider) (D.candidates_of c.provider)
         (D.matches c.provider) false)) c.sorted
-        × IsKept same_union (IsUnionList (D.members_of c.provider) (lists_of c.sorted)) c.unions.entries
+        × IsKept same_union (IsUnionList (D.members_of c.provider) c.sorted) c.unions.entries
         × IsKept D.SolvableId.eq (IsNeeds (D.dependencies_of c.provider)) c.dependencies
         × HoldsHinted (λ s. among D.NameId.eq (keys_of c.lists) (D.name_of_solvable c.provider s))
         (is_hinted D.SolvableId.eq (D.name_of_solvable c.provider) (D.candidates_of c.provider))
@@ -148,9 +149,9 @@ impl<D: DependencyProvider> SolverCache<D> {
             provider,
             alloc,
             lists: IdTable::new(alloc),
-            matching: HashMap::new(alloc),
-            non_matching: IdTable::new(alloc),
-            sorted: IdTable::new(alloc),
+            matching: IdLists::new(alloc),
+            non_matching: IdLists::new(alloc),
+            sorted: IdLists::new(alloc),
             unions: HashMap::new(alloc),
             dependencies: IdTable::new(alloc),
             hinted: <D::SolvableId as SolverId>::Set::new(alloc),
@@ -243,7 +244,7 @@ impl<D: DependencyProvider> SolverCache<D> {
     pub fn has_matching_candidates(&self, version_set: VersionSetId) -> bool
         ensures { result ≡ among same_set self.now.matching version_set }
     {
-        self.matching.contains_key(&version_set)
+        self.matching.contains(version_set)
     }
 
     /// The cached candidates of a version set's package that match it.
@@ -253,8 +254,8 @@ impl<D: DependencyProvider> SolverCache<D> {
             ≡ matching_in (D.name_of_version_set self.now.provider)
             (D.candidates_of self.now.provider) (D.matches self.now.provider) false version_set }
     {
-        match self.matching.get(&version_set) {
-            Some(list) => list.as_slice(),
+        match self.matching.get(version_set) {
+            Some(list) => list,
             None => unreachable!(),
         }
     }
@@ -287,9 +288,10 @@ impl<D: DependencyProvider> SolverCache<D> {
 
     /// Filters the cached candidates of a version set's package, and caches those that match it.
     fn keep_matching(&mut self, version_set: VersionSetId) -> R<()>
-        requires { among D.NameId.eq self.old.names
+        requires listed { among D.NameId.eq self.old.names
             (D.name_of_version_set self.old.provider version_set)
             ≡ true }
+        requires fresh { among same_set self.old.matching version_set ≡ false }
         // The answer is cached.
         ensures there { OnOk result (among same_set self.new.matching version_set ≡ true) }
         // What else changes.
@@ -300,7 +302,7 @@ impl<D: DependencyProvider> SolverCache<D> {
         ensures ids { IsErrOf result WantIds → D.may_lack_ids self.old.provider }
     {
         let found = self.filtered(version_set, false)?;
-        self.matching.insert(version_set, found)?;
+        self.matching.put(version_set, found.as_slice())?;
         Ok(())
     }
 
@@ -338,7 +340,7 @@ impl<D: DependencyProvider> SolverCache<D> {
             (D.candidates_of self.now.provider) (D.matches self.now.provider) true version_set }
     {
         match self.non_matching.get(version_set) {
-            Some(list) => list.as_slice(),
+            Some(list) => list,
             None => unreachable!(),
         }
     }
@@ -381,7 +383,7 @@ impl<D: DependencyProvider> SolverCache<D> {
         ensures ids { IsErrOf result WantIds → D.may_lack_ids self.old.provider }
     {
         let found = self.filtered(version_set, true)?;
-        self.non_matching.put(version_set, found)?;
+        self.non_matching.put(version_set, found.as_slice())?;
         Ok(())
     }
 
@@ -470,7 +472,7 @@ impl<D: DependencyProvider> SolverCache<D> {
             result.now }
     {
         match self.sorted.get(version_set) {
-            Some(list) => list.as_slice(),
+            Some(list) => list,
             None => unreachable!(),
         }
     }
@@ -536,7 +538,7 @@ impl<D: DependencyProvider> SolverCache<D> {
         ensures ids { IsErrOf result WantIds → D.may_lack_ids self.old.provider }
     {
         let list = self.sorted_list(version_set)?;
-        self.sorted.put(version_set, list)?;
+        self.sorted.put(version_set, list.as_slice())?;
         Ok(())
     }
 

@@ -4,6 +4,7 @@
 pub mod cache;
 pub mod frozen_copy_map;
 mod hinted;
+mod id_lists;
 mod id_table;
 
 pub use cache::{CacheFault, SolverCache};

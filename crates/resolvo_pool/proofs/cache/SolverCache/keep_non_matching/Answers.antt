@@ -6,7 +6,7 @@ use Rattle.resolvo_pool.proofs.cache.SolverCache.keep_non_matching.Goals as goal
 
 pub invariant_of-self-2 : goal.invariant_of-self-2
 invariant_of-self-2 g c =
-    (c.self.invariant.0, c.self.invariant.1, kept_more same_set c.self.inside.non_matching c.put.new.self c.args.version_set c.in_ok-found.found c.in_ok-put.ensures.put (IsList (matching_in (g.D.Interner.name_of_version_set c.self.inside.provider) (g.D.DependencyProvider.candidates_of c.self.inside.provider) (g.D.DependencyProvider.matches c.self.inside.provider) true)) (same_set_exact c.args.version_set) (rw (← c.self.view_is) at c.in_ok-found.ensures.filtered) c.self.invariant.2, c.self.invariant.3, c.self.invariant.4, c.self.invariant.5, c.self.invariant.6)
+    (c.self.invariant.0, c.self.invariant.1, kept_more same_set c.self.inside.non_matching c.put.new.self c.args.version_set c.as_slice.result.now c.in_ok-put.ensures.put (IsList (matching_in (g.D.Interner.name_of_version_set c.self.inside.provider) (g.D.DependencyProvider.candidates_of c.self.inside.provider) (g.D.DependencyProvider.matches c.self.inside.provider) true)) (same_set_exact c.args.version_set) (c.as_slice.ensures.value ∙ (rw (← c.self.view_is) at c.in_ok-found.ensures.filtered)) c.self.invariant.2, c.self.invariant.3, c.self.invariant.4, c.self.invariant.5, c.self.invariant.6)
 
 pub returns-clause-there : goal.returns-clause-there
 returns-clause-there g c = among_found same_set c.put.new.self c.args.version_set _ c.in_ok-put.ensures.found

@@ -1,13 +1,13 @@
 use Rattle.std.proofs.Common.{refl}
 use Rattle.resolvo_pool.proofs.KeptLemmas.{among_found, among_more, kept_more, same_union_exact}
-use Rattle.resolvo_pool.specs.Cached.{IsUnionList, same_union, lists_of}
+use Rattle.resolvo_pool.specs.Cached.{IsUnionList, same_union}
 use Rattle.resolvo_pool.proofs.cache.SolverCache.keep_union.Goals as goal
 
 pub invariant_of-self-2 : goal.invariant_of-self-2
 invariant_of-self-2 g c =
     let seen = rw (← c.self.view_is) at c.in_ok-joined.ensures.joined in
     let joined = rw c.version_sets_in_union.ensures at seen in
-    (c.self.invariant.0, c.self.invariant.1, c.self.invariant.2, c.self.invariant.3, kept_more same_union c.self.inside.unions.entries c.insert.new.self.entries c.args.union c.in_ok-joined.joined c.in_ok-insert.ensures.updates.0 (IsUnionList (g.D.Interner.members_of c.self.inside.provider) (lists_of c.self.inside.sorted)) (same_union_exact c.args.union) (joined, rw (← c.self.view_is) at c.requires) c.self.invariant.4, c.self.invariant.5, c.self.invariant.6)
+    (c.self.invariant.0, c.self.invariant.1, c.self.invariant.2, c.self.invariant.3, kept_more same_union c.self.inside.unions.entries c.insert.new.self.entries c.args.union c.in_ok-joined.joined c.in_ok-insert.ensures.updates.0 (IsUnionList (g.D.Interner.members_of c.self.inside.provider) c.self.inside.sorted) (same_union_exact c.args.union) (joined, rw (← c.self.view_is) at c.requires) c.self.invariant.4, c.self.invariant.5, c.self.invariant.6)
 
 pub returns-clause-there : goal.returns-clause-there
 returns-clause-there g c = among_found same_union c.insert.new.self.entries c.args.union _ c.in_ok-insert.ensures.updates.1

@@ -7,8 +7,8 @@ use Rattle.resolvo_pool.proofs.cache.SolverCache.matching_candidates.Goals as go
 
 pub unreachable-requires : goal.unreachable-requires
 unreachable-requires g c =
-    not_absent same_set c.self.inside.matching.entries c.args.version_set (rw (← c.self.view_is) at c.requires) (sym c.get.ensures.value ∙ ap option_copied c.in-None.is)
+    not_absent same_set c.self.inside.matching c.args.version_set (rw (← c.self.view_is) at c.requires) (sym c.get.ensures.value ∙ ap option_copied c.in-None.is)
 
 pub returns : goal.returns
 returns g c =
-    rw (← c.self.view_is) (c.as_slice.ensures.value ∙ kept_at same_set (IsList (matching_in (g.D.Interner.name_of_version_set c.self.inside.provider) (g.D.DependencyProvider.candidates_of c.self.inside.provider) (g.D.DependencyProvider.matches c.self.inside.provider) false)) c.self.inside.matching.entries c.args.version_set c.in-Some.list.now (sym c.get.ensures.value ∙ ap option_copied c.in-Some.is) c.self.invariant.1)
+    rw (← c.self.view_is) (kept_at same_set (IsList (matching_in (g.D.Interner.name_of_version_set c.self.inside.provider) (g.D.DependencyProvider.candidates_of c.self.inside.provider) (g.D.DependencyProvider.matches c.self.inside.provider) false)) c.self.inside.matching c.args.version_set c.in-Some.list.now (sym c.get.ensures.value ∙ ap option_copied c.in-Some.is) c.self.invariant.1)

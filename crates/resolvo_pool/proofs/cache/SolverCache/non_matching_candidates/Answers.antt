@@ -11,4 +11,4 @@ unreachable-requires g c =
 
 pub returns : goal.returns
 returns g c =
-    rw (← c.self.view_is) (c.as_slice.ensures.value ∙ kept_at same_set (IsList (matching_in (g.D.Interner.name_of_version_set c.self.inside.provider) (g.D.DependencyProvider.candidates_of c.self.inside.provider) (g.D.DependencyProvider.matches c.self.inside.provider) true)) c.self.inside.non_matching c.args.version_set c.in-Some.list.now (sym c.get.ensures.value ∙ ap option_copied c.in-Some.is) c.self.invariant.2)
+    rw (← c.self.view_is) (kept_at same_set (IsList (matching_in (g.D.Interner.name_of_version_set c.self.inside.provider) (g.D.DependencyProvider.candidates_of c.self.inside.provider) (g.D.DependencyProvider.matches c.self.inside.provider) true)) c.self.inside.non_matching c.args.version_set c.in-Some.list.now (sym c.get.ensures.value ∙ ap option_copied c.in-Some.is) c.self.invariant.2)
