@@ -1,7 +1,6 @@
 -- Entries of the cache stay true, and stay in it, as a key is inserted.
 use Rattle.std.proofs.Common.{◌≡◌, ℕ, ◌+◌, ◌<◌, length, take, get_or, append-nil, suc, arith, Bool, true, false, List, [], ◌∷◌, ◌++◌, refl, subst, cond, ap, ◌∙◌, sym}
 use Rattle.std.specs.Prelude.{Option, None, Some, ⊤, MatchOption, All, unwrap_or}
-use Rattle.std.specs.Global.{Vec}
 use Rattle.std.specs.List.{flat_map}
 use Rattle.std.specs.Map.{lookup, keys_of}
 use Rattle.std.specs.Option.{is_some}
@@ -124,7 +123,7 @@ module _ {S : Type 0} where
             (ap is_some f, ap (λ o. unwrap_or o []) f ∙ sym (ap (λ o. unwrap_or o []) e))
 
     -- and so does the list of a union
-    pub union_stays : (members_of : VersionSetUnionId → List VersionSetId) (u : VersionSetUnionId) (xs : Vec S) → IsUnionList members_of es u xs → IsUnionList members_of fs u xs
+    pub union_stays : (members_of : VersionSetUnionId → List VersionSetId) (u : VersionSetUnionId) (xs : List S) → IsUnionList members_of es u xs → IsUnionList members_of fs u xs
     union_stays members_of u xs (e, sorted) =
         (e ∙ flat_map_same (sorted_of es) (sorted_of fs) (members_of u) (λ n d l. sym (still_sorted _ (sorted n d l)).1), λ n d l. (still_sorted _ (sorted n d l)).0)
 

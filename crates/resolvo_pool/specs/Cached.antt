@@ -2,7 +2,6 @@
 use Rattle.std.specs.Prelude.{◌≡◌, ◌==◌, Bool, true, List, [], Option, Some, ⊤, MatchOption, unwrap_or, is_some, All}
 use Rattle.std.specs.Map.{lookup}
 use Rattle.std.specs.List.{list_any, flat_map}
-use Rattle.std.specs.Global.{Vec}
 use Rattle.resolvo_pool_core.specs.declared.id.VersionSetId.{VersionSetId}
 use Rattle.resolvo_pool_core.specs.declared.id.VersionSetUnionId.{VersionSetUnionId}
 use Rattle.resolvo_pool_core.specs.declared.requirement.Requirement.{Requirement}
@@ -62,8 +61,8 @@ abbrev pub IsSortedList : {S : Type 0} → (List S → List S → Type 0) → (S
 IsSortedList sorts eq first list_of v xs = IsTried sorts eq (first v) (list_of v) xs
 
 -- a kept list of a union is its version sets' sorted lists in order
-abbrev pub IsUnionList : {S : Type 0} → (VersionSetUnionId → List VersionSetId) → List (VersionSetId × List S) → VersionSetUnionId → Vec S → Type 0
-IsUnionList members_of es u xs = (xs.items ≡ flat_map (sorted_of es) (members_of u)) × All (λ v. is_sorted es v ≡ true) (members_of u)
+abbrev pub IsUnionList : {S : Type 0} → (VersionSetUnionId → List VersionSetId) → List (VersionSetId × List S) → VersionSetUnionId → List S → Type 0
+IsUnionList members_of es u xs = (xs ≡ flat_map (sorted_of es) (members_of u)) × All (λ v. is_sorted es v ≡ true) (members_of u)
 
 -- a kept answer on dependencies is the provider's
 abbrev pub IsNeeds : {S : Type 0} → (S → Needs) → S → Dependencies → Type 0

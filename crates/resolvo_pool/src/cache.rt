@@ -24,7 +24,6 @@ use resolvo_pool_core::requirement::Requirement;
 use resolvo_pool_core::solver_id::SolverId;
 use resolvo_pool_core::want::{R, Want};
 use std::alloc::{AllocError, AllocFailed, Global};
-use std::collections::HashMap;
 use std::marker::Model;
 use thiserror::Error;
 
@@ -87,14 +86,13 @@ pub struct SolverCache<D: DependencyProvider> {
     matching: IdLists<VersionSetId, D::SolvableId, Vec<OptionalNumber>>,
     non_matching: IdLists<VersionSetId, D::SolvableId, Vec<OptionalNumber>>,
     sorted: IdLists<VersionSetId, D::SolvableId, Vec<OptionalNumber>>,
-    unions: HashMap<VersionSetUnionId, Vec<D::SolvableId>>,
+    unions: IdLists<VersionSetUnionId, D::SolvableId, Vec<OptionalNumber>>,
     dependencies: IdTable<D::SolvableId, Dependencies, <D::SolvableId as SolverId>::OptionalIds>,
     hinted: <D::SolvableId as SolverId>::Set,
 }
 
 impl<D: DependencyProvider> Model for SolverCache<D> {
     ghost use Rattle.std.specs.Prelude.{true, false};
-    ghost use Rattle.std.specs.HashMap.{keys};
     ghost use Rattle.std.specs.Map.{keys_of};
     ghost use Rattle.resolvo_pool_core.specs.Provider.{matching_in, tried_first};
     ghost use Rattle.resolvo_pool.specs.Cached.{Cached, IsKept, IsListing, IsList, IsSortedList, IsUnionList, IsNeeds, same_set, same_union, among};
@@ -109,7 +107,7 @@ impl<D: DependencyProvider> Model for SolverCache<D> {
           matching = keys_of c.matching;
           non_matching = keys_of c.non_matching;
           sorted = c.sorted;
-          unions = keys c.unions;
+          unions = keys_of c.unions;
           solvables = keys_of c.dependencies;
         } };
 
@@ -123,7 +121,7 @@ impl<D: DependencyProvider> Model for SolverCache<D> {
         (D.name_of_version_set c.provider) (D.candidates_of c.provider)) (matching_in
         (D.name_of_version_set c.provider) (D.candidates_of c.provider)
         (D.matches c.provider) false)) c.sorted
-        × IsKept same_union (IsUnionList (D.members_of c.provider) c.sorted) c.unions.entries
+        × IsKept same_union (IsUnionList (D.members_of c.provider) c.sorted) c.unions
         × IsKept D.SolvableId.eq (IsNeeds (D.dependencies_of c.provider)) c.dependencies
         × HoldsHinted (λ s. among D.NameId.eq (keys_of c.lists) (D.name_of_solvable c.provider s))
         (is_hinted D.SolvableId.eq (D.name_of_solvable c.provider) (D.candidates_of c.provider))
@@ -152,7 +150,7 @@ impl<D: DependencyProvider> SolverCache<D> {
             matching: IdLists::new(alloc),
             non_matching: IdLists::new(alloc),
             sorted: IdLists::new(alloc),
-            unions: HashMap::new(alloc),
+            unions: IdLists::new(alloc),
             dependencies: IdTable::new(alloc),
             hinted: <D::SolvableId as SolverId>::Set::new(alloc),
         }
@@ -436,7 +434,7 @@ impl<D: DependencyProvider> SolverCache<D> {
     {
         match requirement {
             Requirement::Single(version_set) => self.sorted.contains(version_set),
-            Requirement::Union(union) => self.unions.contains_key(&union),
+            Requirement::Union(union) => self.unions.contains(union),
         }
     }
 
@@ -489,8 +487,8 @@ impl<D: DependencyProvider> SolverCache<D> {
             (D.candidates_of self.now.provider) (D.matches self.now.provider) false)
             (D.members_of self.now.provider union) result.now }
     {
-        match self.unions.get(&union) {
-            Some(list) => list.as_slice(),
+        match self.unions.get(union) {
+            Some(list) => list,
             None => unreachable!(),
         }
     }
@@ -659,15 +657,16 @@ impl<D: DependencyProvider> SolverCache<D> {
 
     /// Joins the cached sorted lists of a union's version sets, and caches the whole.
     fn keep_union(&mut self, union: VersionSetUnionId) -> R<()>
-        requires { All
+        requires sorted { All
             (λ v. is_sorted self.old.sorted v ≡ true) (D.members_of self.old.provider union) }
+        requires fresh { among same_union self.old.unions union ≡ false }
         ensures there { OnOk result (among same_union self.new.unions union ≡ true) }
         ensures extends { Extends D.NameId.eq D.SolvableId.eq self.old self.new }
         ensures err { OnErr result (self.new ≡ self.old) }
         ensures refusal { IsOkUnless result WantMemory }
     {
         let joined = self.joined(self.provider.version_sets_in_union(union))?;
-        self.unions.insert(union, joined)?;
+        self.unions.put(union, joined.as_slice())?;
         Ok(())
     }
 

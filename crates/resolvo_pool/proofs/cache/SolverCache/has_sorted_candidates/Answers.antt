@@ -9,4 +9,4 @@ returns-in-Single g c =
 
 pub returns-in-Union : goal.returns-in-Union
 returns-in-Union g c =
-    rw (← c.self.view_is, c.in-Union.is) (c.contains_key.ensures ∙ sym (among-lookup same_union c.self.inside.unions.entries c.in-Union.union))
+    rw (← c.self.view_is, c.in-Union.is) (c.contains-in-Union.ensures ∙ sym (among-lookup same_union c.self.inside.unions c.in-Union.union))
