@@ -19,7 +19,7 @@ use Rattle.resolvo_catalogue_core.specs.Kept.{nth}
 use Rattle.resolvo_catalogue_core.specs.declared.rule.VersionNo.{VersionNo}
 use Rattle.resolve_order.specs.Order.{line_named, IsAsked, Precedes, IsSorted, IsOfFirst, IsNext, IsComplete, AreInOrder, Turn, IsOneTurn}
 use Rattle.resolve_order.specs.View.{reason_of, answers_of, AreNumbered}
-use Rattle.resolve_order.specs.Keys.{number_of}
+use Rattle.resolve_order.specs.Keys.{number_of, places_of}
 use Rattle.resolve_order.specs.Numbers.{version_in}
 use Rattle.resolve_order.specs.declared.version_table.VersionTable.{VersionTable}
 use Rattle.resolve_order.specs.declared.chosen.Chosen.{Chosen}
@@ -180,7 +180,7 @@ list_at lists number = option_and_then (λ n. slice_get lists n) number
 
 -- whether line i is kept by key p
 abbrev pub is_kept : PackageLines → ℕ → ℕ → Bool
-is_kept t p i = has_line (list_at t.lines.items (number_of t.keys.places.items p)) i
+is_kept t p i = has_line (list_at t.lines.items (number_of (places_of t.keys.places) p)) i
 
 -- The key of a SPEC is the number of the one version that it may match, or else that of its package's first version.
 abbrev pub IsKeyOf : List Version → List ℕ → Span → ℕ → Type 0

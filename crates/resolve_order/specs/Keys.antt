@@ -1,10 +1,15 @@
 -- Keys by numbers, as the code keeps them.
-use Rattle.std.specs.Prelude.{◌≡◌, ℕ, zero, suc, ◌<◌, List, Option, Some, None, slice_index_or}
+use Rattle.std.specs.Prelude.{◌≡◌, ℕ, zero, suc, ◌<◌, if◌then◌else◌, List, Option, Some, None, slice_index_or}
+use Rattle.resolve_order.specs.declared.key_places.KeyPlaces.{KeyPlaces}
 
 -- the number before this one, if there is one
 abbrev pub before : ℕ → Option ℕ
 before zero = None
 before (suc n) = Some n
+
+-- the numbers by keys
+abbrev pub places_of : KeyPlaces → List ℕ
+places_of p = if p.is_wide then p.many.items else p.few.items
 
 -- the number of key k, if it has one
 abbrev pub number_of : List ℕ → ℕ → Option ℕ

@@ -6,7 +6,7 @@ use Rattle.std.specs.Ordering.{nat_cmp}
 use Rattle.resolvo_text.specs.declared.spec.Span.{Span}
 use Rattle.resolvo_text.specs.Matches.{is_in_span}
 use Rattle.resolvo_catalogue_core.specs.declared.rule.VersionNo.{VersionNo}
-use Rattle.resolve_order.specs.Keys.{number_of}
+use Rattle.resolve_order.specs.Keys.{number_of, places_of}
 use Rattle.resolve_order.specs.declared.version_table.Numbered.{Numbered}
 use Rattle.resolve_order.specs.declared.version_table.VersionTable.{VersionTable}
 
@@ -25,7 +25,7 @@ slot single (Some n) = single_at single n
 
 -- the version in the place of package k of a table
 abbrev pub single_of : VersionTable → ℕ → Option Numbered
-single_of t k = slot t.single.items (number_of t.keys.places.items k)
+single_of t k = slot t.single.items (number_of (places_of t.keys.places) k)
 
 -- A place has no version, or that of this number.
 abbrev pub is_free : Option Numbered → ℕ → Bool

@@ -5,6 +5,7 @@ mod chosen;
 mod entry;
 mod install_order;
 mod key_numbers;
+mod key_places;
 mod need;
 mod open_lines;
 mod package_lines;

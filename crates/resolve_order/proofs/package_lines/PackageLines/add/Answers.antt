@@ -1,5 +1,5 @@
 use Rattle.std.proofs.Common.{◌≡◌, ℕ, Option, true, sym, subst}
-use Rattle.resolve_order.specs.Keys.{number_of}
+use Rattle.resolve_order.specs.Keys.{number_of, places_of}
 use Rattle.resolve_order.specs.Kept.{has_line, list_at}
 use Rattle.resolve_order.proofs.KeyLemmas.{keys_keep}
 use Rattle.resolve_order.proofs.NeedLemmas.{on_ok}
@@ -9,4 +9,4 @@ pub returns-clause-added : goal.returns-clause-added
 returns-clause-added c = on_ok c.add_numbered.result (λ added. subst (λ (o : Option ℕ). has_line (list_at c.add_numbered.new.lines.items o) c.args.line ≡ true) (sym c.in_ok-number.ensures.here) added) c.add_numbered.ensures.added
 
 pub returns-clause-kept : goal.returns-clause-kept
-returns-clause-kept c = on_ok c.add_numbered.result (λ kept. keys_keep c.args.self.now.lines.items c.add_numbered.new.lines.items (number_of c.args.self.now.keys.places.items) (number_of c.put.new.self.places.items) c.args.key kept c.in_ok-number.ensures.known c.in_ok-number.ensures.others) c.add_numbered.ensures.kept
+returns-clause-kept c = on_ok c.add_numbered.result (λ kept. keys_keep c.args.self.now.lines.items c.add_numbered.new.lines.items (number_of (places_of c.args.self.now.keys.places)) (number_of (places_of c.put.new.self.places)) c.args.key kept c.in_ok-number.ensures.known c.in_ok-number.ensures.others) c.add_numbered.ensures.kept
