@@ -1,12 +1,13 @@
 -- A listing with one more entry.
-use Rattle.std.proofs.Common.{◌≡◌, ◌⊎◌, inl, inr, ℕ, ◌<◌, ◌+◌, true, false, if◌then◌else◌, List, [], ◌∷◌, ◌++◌, length, take, drop, get_or, Option, None, Some, refl, sym, ap, subst, ◌∙◌, arith}
+use Rattle.std.proofs.Common.{◌≡◌, ◌⊎◌, inl, inr, ℕ, ◌<◌, ◌+◌, true, false, if◌then◌else◌, List, [], ◌∷◌, ◌++◌, length, Option, None, Some, refl, sym, ap, subst, ◌∙◌, arith}
 use Rattle.std.specs.Prelude.{slice_get, not, Contains, option_to_list}
+use Rattle.std.specs.Option.{option_and_then}
 use Rattle.std.specs.BTreeSet.{contains}
 use Rattle.std.specs.Ordering.{nat_cmp}
 use Rattle.std.proofs.lemmas.Bool.{false≢true, cases_Bool}
 use Rattle.std.proofs.lemmas.Grind.{flat_map-append}
-use Rattle.std.proofs.lemmas.List.{append-nil, map-append, take-append-drop}
-use Rattle.std.proofs.lemmas.List.Elements.{Contains-append_cases, Contains-append_left, Contains-append_right}
+use Rattle.std.proofs.lemmas.List.{append-nil, map-append}
+use Rattle.std.proofs.lemmas.List.Elements.{Contains-append_cases}
 use Rattle.std.proofs.lemmas.Option.{slice_get_within}
 use Rattle.resolvo_text.specs.Line.{Version, Line}
 use Rattle.resolvo_text.specs.Matches.{Set, is_member}
@@ -20,7 +21,7 @@ use Rattle.resolvo_terms.proofs.Places.{get_push}
 use Rattle.resolvo_catalogue_core.proofs.TableSteps.{numbered}
 use Rattle.resolve_order.specs.Order.{wish_entry, LeavesOut}
 use Rattle.resolve_order.specs.View.{answer_of, answers_of, number_of, IsAccepted}
-use Rattle.resolve_order.specs.Kept.{Holds, AreLines, OthersAreIdle, IsListing, TakesTurn, answers_in, entries_in, lines_to, lines_for, is_unlisted}
+use Rattle.resolve_order.specs.Kept.{first_of, package_at, Holds, AreLines, OthersAreIdle, IsListing, TakesTurn, answers_in, entries_in, lines_to, lines_for, is_unlisted}
 use Rattle.resolve_order.specs.declared.chosen.Chosen.{Chosen}
 use Rattle.resolve_order.specs.declared.entry.Entry.{Entry}
 use Rattle.resolve_order.specs.declared.entry.Reason.{Reason}
@@ -30,7 +31,7 @@ use Rattle.resolve_order.specs.declared.install_order.InstallOrder.{InstallOrder
 use Rattle.resolve_order.proofs.Elements.{no_element, element_cases}
 use Rattle.resolve_order.proofs.LineLemmas.{first_lines, more_lines}
 use Rattle.resolve_order.proofs.OpenLemmas.{IsNumbered, lines_added}
-use Rattle.resolve_order.proofs.PickLemmas.{flag_means, members_more}
+use Rattle.resolve_order.proofs.PickLemmas.{flag_means}
 
 pub no_entries : (catalogue request : List Line) (x : InstallOrder) (n : ℕ) → x.answers.items ≡ [] → x.lines.items ≡ lines_to n → n ≡ length request → ((i : ℕ) → contains nat_cmp x.open_lines.again i ≡ true → ⊥) → x.open_lines.below ≡ 0
     → Holds catalogue x.chosen [] [] → IsListing catalogue request x [] []
@@ -77,31 +78,19 @@ listing_more catalogue request chosen seen before after e v numbers at more line
 
 -- ---- packages of what was added
 
-pub entry_package : (catalogue : List Line) (kept : Chosen) (chosen entries : Set) (n : VersionNo) (v : Version) (p : Option ℕ) → slice_get (listed catalogue) n.0 ≡ Some v → Contains chosen v → Holds catalogue kept chosen entries → p ≡ slice_get kept.packages.items n.0
-    → IsNumbered (listed catalogue) n.0 p v
-entry_package catalogue kept chosen entries n v p at in_chosen h is = let has = h.packages n.0 v at in_chosen in (at, has.2 ∙ sym (is ∙ has.1))
+pub entry_package : (versions : List Version) (n : ℕ) (v : Version) → slice_get versions n ≡ Some v → IsNumbered versions n (package_at versions n) v
+entry_package versions n v at = (at, sym (ap (option_and_then (λ (w : Version). first_of versions w.name)) at))
 
--- one of the versions that were chosen
-pub one_chosen : (versions : List Version) (numbers : List VersionNo) (i : ℕ) (d : VersionNo) (seen all : Set) → all ≡ seen ++ members versions numbers → i < length numbers → (w : Version) → Contains (members versions (get_or numbers i d ∷ [])) w → Contains all w
-one_chosen versions numbers i d seen all is lt w c =
-    subst (λ (set : Set). Contains set w) (sym is) (Contains-append_right seen (members versions numbers) w (subst (λ (set : Set). Contains set w) (sym parts)
-    (Contains-append_left (members versions (take (i + 1) numbers)) (members versions (drop (i + 1) numbers)) w (subst (λ (set : Set). Contains set w) (sym (members_more versions numbers i d lt))
-    (Contains-append_right (members versions (take i numbers)) (members versions (get_or numbers i d ∷ [])) w c)))))
-  where
-    parts : members versions numbers ≡ members versions (take (i + 1) numbers) ++ members versions (drop (i + 1) numbers)
-    parts = ap (members versions) (sym (take-append-drop (i + 1) numbers)) ∙ flat_map-append (λ (n : VersionNo). option_to_list (slice_get versions n.0)) (take (i + 1) numbers) (drop (i + 1) numbers)
-
-pub choice_packages : (catalogue : List Line) (kept : Chosen) (chosen all entries : Set) (n : VersionNo) (p : Option ℕ) → Holds catalogue kept all entries → ((w : Version) → Contains (members (listed catalogue) (n ∷ [])) w → Contains all w) → p ≡ slice_get kept.packages.items n.0
-    → (w : Version) → Contains (chosen ++ members (listed catalogue) (n ∷ [])) w → Contains chosen w ⊎ IsNumbered (listed catalogue) n.0 p w
-choice_packages catalogue kept chosen all entries n p h within is w c = elim (Contains-append_cases chosen (members (listed catalogue) (n ∷ [])) w c) [
+pub choice_packages : (versions : List Version) (chosen : Set) (n : VersionNo) (w : Version) → Contains (chosen ++ members versions (n ∷ [])) w → Contains chosen w ⊎ IsNumbered versions n.0 (package_at versions n.0) w
+choice_packages versions chosen n w c = elim (Contains-append_cases chosen (members versions (n ∷ [])) w c) [
   | inl old ↦ inl old
-  | inr new ↦ inr (of (slice_get (listed catalogue) n.0) refl new)
+  | inr new ↦ inr (of (slice_get versions n.0) refl new)
 ]
   where
-    of : (o : Option Version) → slice_get (listed catalogue) n.0 ≡ o → Contains (option_to_list o ++ []) w → IsNumbered (listed catalogue) n.0 p w
+    of : (o : Option Version) → slice_get versions n.0 ≡ o → Contains (option_to_list o ++ []) w → IsNumbered versions n.0 (package_at versions n.0) w
     of None at here = absurd (no_element w here)
     of (Some v) at here = elim (element_cases v [] w here) [
-      | inl same ↦ entry_package catalogue kept all entries n w p (at ∙ ap Some same) (within w (subst (λ (o : Option Version). Contains (option_to_list o ++ []) w) (sym at) here)) h is
+      | inl same ↦ entry_package versions n.0 w (at ∙ ap Some same)
       | inr none ↦ absurd (no_element w none)
     ]
 

@@ -1,5 +1,5 @@
 -- The numbers of keys, and lists by them: a key more, a line more, a list taken.
-use Rattle.std.proofs.Common.{◌≡◌, ◌∙◌, ◌+◌, ◌-◌, ◌<◌, ◌==◌, if◌then◌else◌, inl, inr, ℕ, zero, suc, true, false, List, Option, Some, None, add-one, refl, sym, ap, subst, arith}
+use Rattle.std.proofs.Common.{◌≡◌, ◌∙◌, ◌+◌, ◌==◌, if◌then◌else◌, inl, inr, ℕ, true, false, List, [], ◌∷◌, length, Option, Some, None, add-one, refl, sym, ap, subst, arith}
 use Rattle.std.specs.Prelude.{slice_get, slice_index_or}
 use Rattle.std.specs.Global.{Vec}
 use Rattle.std.proofs.lemmas.Bool.{cases_Bool}
@@ -12,13 +12,6 @@ use Rattle.resolve_order.specs.declared.version_table.Numbered.{Numbered}
 
 pub true_false : true ≡ false → ⊥
 true_false e = cc
-
-some_none : (n : ℕ) → ◌≡◌ {A = Option ℕ} (Some n) None → ⊥
-some_none n e = cc
-
-pub before_some : (p : ℕ) → 0 < p → before p ≡ Some (p - 1)
-before_some zero h = absurd (omega arith)
-before_some (suc n) h = ap (λ (m : ℕ). let x : Option ℕ = Some m in x) (omega arith)
 
 before_more : (n : ℕ) → before (n + 1) ≡ Some n
 before_more n = ap before (add-one n)
@@ -63,6 +56,12 @@ module _ (old new : List ℕ) (count key : ℕ) (puts : (k : ℕ) → slice_inde
           omega (arith, is, low)
 
 -- ---- lists by the numbers
+
+-- Where there is no list, no key keeps a line.
+pub none_kept : (lists : List (Vec ℕ)) (number : Option ℕ) (i : ℕ) → length lists ≡ 0 → has_line (list_at lists number) i ≡ true → ⊥
+none_kept [] None i none e = true_false (sym e)
+none_kept [] (Some n) i none e = true_false (sym e)
+none_kept (x ∷ lists) number i none e = omega (arith, none)
 
 -- Where each list keeps its lines, and each key its number, each key keeps its lines.
 pub keys_keep : (old new : List (Vec ℕ)) (before after : ℕ → Option ℕ) (key : ℕ) → ((n i : ℕ) → has_line (slice_get old n) i ≡ true → has_line (slice_get new n) i ≡ true)

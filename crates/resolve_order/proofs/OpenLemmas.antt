@@ -13,7 +13,6 @@ use Rattle.resolvo_text.specs.declared.spec.Span.{Span}
 use Rattle.resolvo_text.specs.declared.spec.Span.TheVariants.{Any, One, Range}
 use Rattle.resolvo_text.specs.Matches.{Set, matches, is_met, is_in_span, holds, condition_holds}
 use Rattle.resolvo_catalogue_core.specs.Answers as answers
-use Rattle.resolvo_catalogue_core.specs.Answers.{IsNeededBy}
 use Rattle.resolvo_catalogue_core.specs.Listed.{listed}
 use Rattle.resolvo_catalogue_core.specs.declared.rule.VersionNo.{VersionNo}
 use Rattle.resolvo_catalogue_core.proofs.TableSteps.{numbered}

@@ -20,7 +20,7 @@ use Rattle.resolvo_catalogue_core.specs.declared.rule.VersionNo.{VersionNo}
 use Rattle.resolvo_catalogue_core.proofs.TableSteps.{same_version_is}
 use Rattle.resolve_order.specs.Order.{IsSorted}
 use Rattle.resolve_order.specs.Numbers.{version_in, IsNewestIn}
-use Rattle.resolve_order.specs.Kept.{first_of, numbers_in, by_name, AreNumbersOf, IsLeftOver, IsFavouredOf, favoured_in, is_unlisted, weight, unlisted, IsIn, HasPackage, Holds, IsFavouredMatch, IsUnlistedMatch, IsFirstMatch, IsLineState, IsWaiting, IsSpent}
+use Rattle.resolve_order.specs.Kept.{first_of, numbers_in, by_name, AreNumbersOf, IsLeftOver, IsFavouredOf, favoured_in, is_unlisted, weight, unlisted, IsIn, Holds, IsFavouredMatch, IsUnlistedMatch, IsFirstMatch, IsLineState, IsWaiting, IsSpent}
 use Rattle.resolve_order.specs.declared.chosen.LineState.TheVariants as state
 use Rattle.resolve_order.specs.declared.version_table.VersionTable.{VersionTable}
 use Rattle.resolve_order.specs.declared.chosen.Chosen.{Chosen}
@@ -53,9 +53,8 @@ is_nat (suc a) (suc b) = elim (is_nat a b) [ inl e ↦ inl (ap suc e) | inr apar
 -- a version that is no entry
 pub adds : (catalogue : List Line) (before after : Chosen) (chosen entries : Set) (n : VersionNo) (v : Version) → slice_get (listed catalogue) n.0 ≡ Some v → is_unlisted before.listed.items n.0 ≡ true
     → ((name : List ℕ) → PutsNumber v (Some n) name (by_name (listed catalogue) before.unlisted name) (by_name (listed catalogue) after.unlisted name)) → after.entries ≡ before.entries → after.favoured ≡ before.favoured → after.listed ≡ before.listed → after.left.items ≡ before.left.items ++ n ∷ []
-    → HasPackage (listed catalogue) after.packages.items n.0 v → ((k p : ℕ) → (k ≡ n.0 → ⊥) → slice_get before.packages.items k ≡ Some p → slice_get after.packages.items k ≡ Some p)
     → Holds catalogue before chosen entries → Holds catalogue after (chosen ++ members (listed catalogue) (n ∷ [])) entries
-adds catalogue before after chosen entries n v at unset puts entered favoured flags left here others h = subst (λ (new : Set). Holds catalogue after (chosen ++ new) entries) (sym (alone (listed catalogue) n v at)) (record {
+adds catalogue before after chosen entries n v at unset puts entered favoured flags left h = subst (λ (new : Set). Holds catalogue after (chosen ++ new) entries) (sym (alone (listed catalogue) n v at)) (record {
   unlisted = λ name. numbers_more (listed catalogue) (IsLeftOver chosen entries) (IsLeftOver (chosen ++ v ∷ []) entries) v n name (by_name (listed catalogue) before.unlisted name) (by_name (listed catalogue) after.unlisted name) h.distinct at
       (λ w l. (Contains-append_left chosen (v ∷ []) w l.0, l.1)) (Contains-push chosen v, none_from_member entries v (not_true (is_member v entries) (sym (flag_means catalogue before chosen entries n.0 v h at) ∙ unset)))
       (λ w l apart. (elim (Contains-push_cases chosen v w l.0) [ inl old ↦ old | inr new ↦ absurd (apart new) ], l.1)) (puts name) (h.unlisted name);
@@ -72,20 +71,7 @@ adds catalogue before after chosen entries n v at unset puts entered favoured fl
     ]
     | inr new ↦ inr (n, subst (λ (ns : List VersionNo). Contains ns n) (sym left) (Contains-push before.left.items n), at ∙ ap Some new)
   ];
-  packages = λ k w at_k c. elim (Contains-push_cases chosen v w c) [
-    | inl old ↦ kept k w at_k old (is_nat k n.0)
-    | inr new ↦
-        let at_v : slice_get (listed catalogue) k ≡ Some v = subst (λ (x : Version). slice_get (listed catalogue) k ≡ Some x) (sym new) at_k in
-        packaged k w (h.distinct v k n.0 at_v at) new
-  ];
 })
-  where
-    packaged : (k : ℕ) (w : Version) → k ≡ n.0 → v ≡ w → HasPackage (listed catalogue) after.packages.items k w
-    packaged k w same is = subst (λ (i : ℕ). HasPackage (listed catalogue) after.packages.items i w) (sym same) (subst (HasPackage (listed catalogue) after.packages.items n.0) is here)
-
-    kept : (k : ℕ) (w : Version) → slice_get (listed catalogue) k ≡ Some w → Contains chosen w → (k ≡ n.0) ⊎ (k ≡ n.0 → ⊥) → HasPackage (listed catalogue) after.packages.items k w
-    kept k w at_k old (inl same) = packaged k w same (let e : slice_get (listed catalogue) n.0 ≡ Some w = subst (λ (i : ℕ). slice_get (listed catalogue) i ≡ Some w) same at_k in cc)
-    kept k w at_k old (inr apart) = let p = h.packages k w at_k old in (p.0, others k p.0 apart p.1, p.2)
 
 -- no version has this number
 pub adds_none : (catalogue : List Line) (kept : Chosen) (chosen entries : Set) (n : VersionNo) → slice_get (listed catalogue) n.0 ≡ None → Holds catalogue kept chosen entries → Holds catalogue kept (chosen ++ members (listed catalogue) (n ∷ [])) entries
@@ -105,7 +91,6 @@ adds_entry catalogue kept chosen entries n v at entry h = subst (λ (new : Set).
   among = λ w c. Contains-append_left chosen (v ∷ []) w (h.among w c);
   known = λ w c. h.known w (was w c);
   left = λ w c. h.left w (was w c);
-  packages = λ k w at_k c. h.packages k w at_k (was w c);
 })
   where
     was : (w : Version) → Contains (chosen ++ v ∷ []) w → Contains chosen w
@@ -167,7 +152,6 @@ pub record Moves (catalogue : List Line) (before after : Chosen) (n : VersionNo)
   pub taken : (name : List ℕ) → PutsNumber v None name (by_name (listed catalogue) before.unlisted name) (by_name (listed catalogue) after.unlisted name)
   pub same_favoured : after.favoured ≡ before.favoured
   pub same_left : after.left ≡ before.left
-  pub same_packages : after.packages ≡ before.packages
 
 pub marks : (catalogue : List Line) (before after : Chosen) (chosen entries : Set) (n : VersionNo) (v : Version) → slice_get (listed catalogue) n.0 ≡ Some v → Contains chosen v → is_unlisted before.listed.items n.0 ≡ true
     → Moves catalogue before after n v → after.listed.items ≡ set before.listed.items n.0 true → Holds catalogue before chosen entries → Holds catalogue after chosen (entries ++ v ∷ [])
@@ -186,7 +170,6 @@ marks catalogue before after chosen entries n v at in_chosen unset moves flags h
     | inl entry ↦ inl (Contains-append_left entries (v ∷ []) w entry)
     | inr i ↦ inr (i.0, subst (λ (l : _). Contains l.items i.0) (sym moves.same_left) i.1, i.2)
   ];
-  packages = λ k w at_k c. subst (λ (l : _). HasPackage (listed catalogue) l.items k w) (sym moves.same_packages) (h.packages k w at_k c);
 }
   where
     of : (k : ℕ) (w : Version) → slice_get (listed catalogue) k ≡ Some w → (k ≡ n.0) ⊎ (k ≡ n.0 → ⊥) → slice_get (set before.listed.items n.0 true) k ≡ Some (is_member w (entries ++ v ∷ []))
@@ -215,8 +198,8 @@ last_none (n ∷ numbers) at =
 
 -- an entry is dropped
 pub drops : (catalogue : List Line) (before after : Chosen) (chosen entries : Set) (n : VersionNo) → before.left.items ≡ after.left.items ++ n ∷ [] → is_unlisted before.listed.items n.0 ≡ false
-    → after.unlisted ≡ before.unlisted → after.entries ≡ before.entries → after.favoured ≡ before.favoured → after.listed ≡ before.listed → after.packages ≡ before.packages → Holds catalogue before chosen entries → Holds catalogue after chosen entries
-drops catalogue before after chosen entries n left is_set over entered favoured flags packages h = record {
+    → after.unlisted ≡ before.unlisted → after.entries ≡ before.entries → after.favoured ≡ before.favoured → after.listed ≡ before.listed → Holds catalogue before chosen entries → Holds catalogue after chosen entries
+drops catalogue before after chosen entries n left is_set over entered favoured flags h = record {
   unlisted = λ name. subst (λ (m : _). AreNumbersOf (listed catalogue) (IsLeftOver chosen entries) name (by_name (listed catalogue) m name)) (sym over) (h.unlisted name);
   entered = λ name. subst (λ (m : _). AreNumbersOf (listed catalogue) (Contains entries) name (by_name (listed catalogue) m name)) (sym entered) (h.entered name);
   favoured = λ name. subst (λ (m : _). IsFavouredOf catalogue name (favoured_in (listed catalogue) m name)) (sym favoured) (h.favoured name);
@@ -228,7 +211,6 @@ drops catalogue before after chosen entries n left is_set over entered favoured 
     | inl entry ↦ inl entry
     | inr i ↦ of w i.0 i.2 (Contains-push_cases after.left.items n i.0 (subst (λ (ns : List VersionNo). Contains ns i.0) left i.1))
   ];
-  packages = λ k w at c. subst (λ (l : _). HasPackage (listed catalogue) l.items k w) (sym packages) (h.packages k w at c);
 }
   where
     of : (w : Version) (m : VersionNo) → slice_get (listed catalogue) m.0 ≡ Some w → Contains after.left.items m ⊎ (n ≡ m) → Contains entries w ⊎ IsIn (listed catalogue) after.left.items w

@@ -39,6 +39,10 @@ abbrev pub first_of : List Version → List ℕ → Option ℕ
 first_of [] name = None
 first_of (v ∷ versions) name = if bytes_eq v.name name then Some 0 else option_map suc (first_of versions name)
 
+-- the same of the package of version n
+abbrev pub package_at : List Version → ℕ → Option ℕ
+package_at versions n = option_and_then (λ v. first_of versions v.name) (slice_get versions n)
+
 -- the versions of a package by their numbers, where it is known by the number of its first version
 abbrev pub numbers_in : VersionTable → Option ℕ → ℕ → Option VersionNo
 numbers_in table None = λ n. None
@@ -89,10 +93,6 @@ unlisted flags = sum_by weight flags
 abbrev pub IsIn : List Version → List VersionNo → Version → Type 0
 IsIn versions numbers v = (n : VersionNo) × Contains numbers n × (slice_get versions n.0 ≡ Some v)
 
--- At the version's number stands the number of its package's first version.
-abbrev pub HasPackage : List Version → List ℕ → ℕ → Version → Type 0
-HasPackage versions packages n v = (p : ℕ) × (slice_get packages n ≡ Some p) × (first_of versions v.name ≡ Some p)
-
 -- These are the chosen versions, each of the catalogue, and these of them are entries. Chosen versions that are none
 -- are among those left.
 pub record Holds (catalogue : List Line) (kept : Chosen) (chosen entries : Set) : Type 0 where
@@ -104,7 +104,6 @@ pub record Holds (catalogue : List Line) (kept : Chosen) (chosen entries : Set) 
   pub among : (v : Version) → Contains entries v → Contains chosen v
   pub known : (v : Version) → Contains chosen v → (n : VersionNo) × (slice_get (listed catalogue) n.0 ≡ Some v)
   pub left : (v : Version) → Contains chosen v → Contains entries v ⊎ IsIn (listed catalogue) kept.left.items v
-  pub packages : (n : ℕ) (v : Version) → slice_get (listed catalogue) n ≡ Some v → Contains chosen v → HasPackage (listed catalogue) kept.packages.items n v
 
 -- It is favoured, a match, chosen and no entry; or no version is all of these.
 abbrev pub IsFavouredMatch : List Line → Set → Set → Spec → Option VersionNo → Type 0
@@ -242,6 +241,10 @@ pub record Closes (before after : OpenLines) (i : ℕ) : Type 0 where
 -- It is a key of a version with this number, in the package whose first version has this one.
 abbrev pub IsVersionKey : ℕ → Option ℕ → ℕ → Type 0
 IsVersionKey n p k = (n ≡ k) ⊎ (p ≡ Some k)
+
+-- It is a key of version n.
+abbrev pub IsKeyAt : List Version → ℕ → ℕ → Type 0
+IsKeyAt versions n k = IsVersionKey n (package_at versions n) k
 
 -- The lines before `below` that are kept by such keys are opened. All others are open or kept as before.
 pub record Reopens (before after : BTreeSet ℕ) (below : ℕ) (kept left : PackageLines) (IsOpened : ℕ → Type 0) : Type 0 where

@@ -12,7 +12,7 @@ ghost use Rattle.resolvo_text.specs.Matches.{Set, is_met, holds, condition_holds
 ghost use Rattle.resolvo_text.specs.View.{cond_of, condition_of};
 ghost use Rattle.resolvo_catalogue_core.specs.Listed.{listed, members, version_at, version_by};
 ghost use Rattle.resolve_order.specs.Numbers.{version_in};
-ghost use Rattle.resolve_order.specs.Kept.{first_of, IsPlaceOf, Holds, IsLeftOver, IsFavouredOf, IsFavouredMatch, IsUnlistedMatch, IsFirstMatch, AreNumbersOf, IsLineState, IfGives, favoured_in, is_unlisted, unlisted};
+ghost use Rattle.resolve_order.specs.Kept.{first_of, package_at, IsPlaceOf, Holds, IsLeftOver, IsFavouredOf, IsFavouredMatch, IsUnlistedMatch, IsFirstMatch, AreNumbersOf, IsLineState, IfGives, favoured_in, is_unlisted, unlisted};
 ghost use Rattle.resolve_order.specs.Need.{IsOf, IsSpanOf, alternatives_in, condition_in};
 
 use crate::need::{Need, PackageSpan, kept_package, kept_span, span_of};
@@ -59,18 +59,6 @@ fn kept_at(versions: &[KeptVersion], version: VersionNo) -> Option<KeptVersion>
     versions.get(version.0 as usize).copied()
 }
 
-/// The own number of a listed version.
-fn number_of(catalogue: &Catalogue, version: VersionNo) -> Option<u32>
-    ensures { result ≡ option_map (λ v. v.number) (version_at catalogue.now version.0) }
-{
-    let kept = catalogue.kept();
-    kept.lines_are_kept();
-    match kept_at(kept.versions(), version) {
-        Some(listed) => Some(listed.number),
-        None => None,
-    }
-}
-
 /// The package of a listed version, and its own number.
 fn place_of(catalogue: &Catalogue, version: VersionNo) -> Option<(u32, u32)>
     ensures { IsPlaceOf (listed catalogue.now) version.0 result }
@@ -80,6 +68,16 @@ fn place_of(catalogue: &Catalogue, version: VersionNo) -> Option<(u32, u32)>
     let listed = kept_at(kept.versions(), version)?;
     let package = kept_package(catalogue, &kept, listed.package)?;
     Some((package, listed.number))
+}
+
+/// The package of a listed version.
+pub fn package_at(catalogue: &Catalogue, version: VersionNo) -> Option<u32>
+    ensures { result ≡ package_at (listed catalogue.now) version.0 }
+{
+    match place_of(catalogue, version) {
+        Some(place) => Some(place.0),
+        None => None,
+    }
 }
 
 /// The favoured versions of a catalogue, by the numbers of their packages' first versions.
@@ -110,29 +108,6 @@ pub struct Chosen {
     listed: Vec<bool>,
     /// The chosen versions that may be no entries yet.
     left: Vec<VersionNo>,
-    /// Of each chosen version, the number of its package's first version; 0 at the others.
-    packages: Vec<u32>,
-}
-
-/// Keeps the package of a version.
-fn put_package(packages: &mut Vec<u32>, version: VersionNo, package: u32) -> Result<(), AllocError>
-    ensures here { OnOk result (slice_get packages.new.items version.0 ≡ Some «package») }
-    ensures others { OnOk result
-        ((k p : ℕ)
-        → (k ≡ version.0 → ⊥)
-        → slice_get packages.old.items k ≡ Some p
-        → slice_get packages.new.items k ≡ Some p) }
-{
-    let place = version.0 as usize;
-    if place == packages.len() {
-        packages.push(package)?;
-        return Ok(());
-    }
-    if place > packages.len() {
-        packages.resize(place + 1, 0)?;
-    }
-    packages[place] = package;
-    Ok(())
 }
 
 impl Chosen {
@@ -147,7 +122,6 @@ impl Chosen {
             favoured: favoured_by(alloc, catalogue)?,
             listed,
             left: Vec::new(alloc),
-            packages: Vec::new(alloc),
         })
     }
 
@@ -164,7 +138,6 @@ impl Chosen {
         }
         if let Some(place) = place_of(catalogue, version) {
             self.unlisted.add(place, version)?;
-            put_package(&mut self.packages, version, place.0)?;
             self.left.push(version)?;
         }
         Ok(())
@@ -198,26 +171,6 @@ impl Chosen {
         }
     }
 
-    /// The package of a chosen version, as `add` found it.
-    pub fn kept_package(&self, version: VersionNo) -> Option<u32>
-        ensures { result ≡ slice_get self.now.packages.items version.0 }
-    {
-        self.packages.get(version.0 as usize).copied()
-    }
-
-    /// The place of a chosen version, without a search of its package.
-    fn kept_place(&self, catalogue: &Catalogue, version: VersionNo) -> Option<(u32, u32)>
-        ensures { (chosen entries : Set) (v : content.Version)
-            → slice_get (listed catalogue.now) version.0 ≡ Some v
-            → Contains chosen v
-            → Holds catalogue.now self.now chosen entries
-            → IsPlaceOf (listed catalogue.now) version.0 result }
-    {
-        let number = number_of(catalogue, version)?;
-        let package = self.kept_package(version)?;
-        Some((package, number))
-    }
-
     /// Makes a chosen version an entry.
     pub fn mark(&mut self, catalogue: &Catalogue, version: VersionNo) -> Result<(), AllocError>
         requires { is_unlisted self.old.listed.items version.0 ≡ true }
@@ -230,7 +183,7 @@ impl Chosen {
             → Holds catalogue.now self.old chosen entries
             → Holds catalogue.now self.new chosen (entries ++ v ∷ [])) }
     {
-        if let Some(place) = self.kept_place(catalogue, version) {
+        if let Some(place) = place_of(catalogue, version) {
             self.entries.add(place, version)?;
             self.unlisted.remove(place);
         }

@@ -94,8 +94,7 @@ impl InstallOrder {
     {
         self.chosen.mark(catalogue, entry.version)?;
         self.answers.push(Answer::Entry(entry))?;
-        self.open_lines
-            .open_waiting(entry.version, self.chosen.kept_package(entry.version))?;
+        self.open_lines.open_waiting(catalogue, entry.version)?;
         push_lines(
             &mut self.lines,
             entry.version,
@@ -128,7 +127,7 @@ impl InstallOrder {
             return Ok(());
         }
         self.open_lines
-            .open_chosen(catalogue, request, &self.chosen, &self.lines, versions)?;
+            .open_chosen(catalogue, request, &self.lines, versions)?;
         while let Some(entry) = self
             .open_lines
             .next(catalogue, request, &self.chosen, &self.lines)?

@@ -14,10 +14,10 @@ ghost use Rattle.resolvo_text.specs.Matches.{Set};
 ghost use Rattle.resolvo_catalogue_core.specs.Listed.{listed, members};
 ghost use Rattle.resolve_order.specs.Order.{line_named};
 ghost use Rattle.resolve_order.specs.View.{reason_of};
-ghost use Rattle.resolve_order.specs.Kept.{Holds, AreLines, IsLineState, IfGives, IsKeptByNeeds, IsKeptForAll, KeepsAll, IsOpen, IsFirstOpen, AreWithin, Closes, IsVersionKey, Reopens, OthersAreIdle, IsFound, specs_under, is_unlisted};
+ghost use Rattle.resolve_order.specs.Kept.{Holds, AreLines, IsLineState, IfGives, IsKeptByNeeds, IsKeptForAll, KeepsAll, IsOpen, IsFirstOpen, AreWithin, Closes, IsKeyAt, Reopens, OthersAreIdle, IsFound, specs_under, is_unlisted};
 ghost use Rattle.resolve_order.specs.Need.{IsNeedAt, IsOfAll};
 
-use crate::chosen::{Chosen, LineState};
+use crate::chosen::{Chosen, LineState, package_at};
 use crate::entry::{Entry, Reason};
 use crate::need::{Need, need_at, need_of};
 use crate::package_lines::PackageLines;
@@ -140,19 +140,23 @@ fn reopen_by(
     Ok(())
 }
 
-/// Opens the lines that are kept by a key of the version, whose package is this one.
+/// Opens the lines that are kept by a key of the version. Mostly there are none.
 fn reopen(
     again: &mut BTreeSet<usize>,
     below: usize,
     kept: &mut PackageLines,
+    catalogue: &Catalogue,
     version: VersionNo,
-    package: Option<u32>,
 ) -> Result<(), AllocError>
     ensures { OnOk result
-        (Reopens again.old again.new below kept.old kept.new (IsVersionKey version.0 «package»)) }
+        (Reopens again.old again.new below kept.old kept.new
+        (IsKeyAt (listed catalogue.now) version.0)) }
 {
+    if kept.is_empty() {
+        return Ok(());
+    }
     reopen_by(again, below, kept, version.0)?;
-    match package {
+    match package_at(catalogue, version) {
         Some(package) => reopen_by(again, below, kept, package),
         None => Ok(()),
     }
@@ -268,12 +272,12 @@ impl OpenLines {
         Ok(())
     }
 
-    /// Opens the spent lines that a chosen version of this package may match.
-    fn open_spent(&mut self, version: VersionNo, package: Option<u32>) -> Result<(), AllocError>
+    /// Opens the spent lines that this chosen version may match.
+    fn open_spent(&mut self, catalogue: &Catalogue, version: VersionNo) -> Result<(), AllocError>
         ensures opened { OnOk result
             (Reopens self.old.again self.new.again self.old.below
             self.old.spent self.new.spent
-            (IsVersionKey version.0 «package»)) }
+            (IsKeyAt (listed catalogue.now) version.0)) }
         ensures below { OnOk result (self.new.below ≡ self.old.below) }
         ensures closed { OnOk result (self.new.closed ≡ self.old.closed) }
         ensures waiting { OnOk result (self.new.waiting ≡ self.old.waiting) }
@@ -282,8 +286,8 @@ impl OpenLines {
             &mut self.again,
             self.below,
             &mut self.spent,
+            catalogue,
             version,
-            package,
         )?;
         Ok(())
     }
@@ -293,34 +297,32 @@ impl OpenLines {
         &mut self,
         catalogue: &Catalogue,
         request: &Request,
-        chosen: &Chosen,
         lines: &[Reason],
         versions: &[VersionNo],
     ) -> Result<(), AllocError>
         ensures { OnOk result
             ((before all entries : Set)
             → all ≡ before ++ members (listed catalogue.now) versions.now
-            → Holds catalogue.now chosen.now all entries
             → OthersAreIdle catalogue.now request.now.lines before entries lines.now self.old
             → OthersAreIdle catalogue.now request.now.lines all entries lines.now self.new) }
     {
         self.keep_closed(catalogue, request, lines)?;
         for version in versions {
-            self.open_spent(*version, chosen.kept_package(*version))?;
+            self.open_spent(catalogue, *version)?;
         }
         Ok(())
     }
 
-    /// Opens the waiting lines whose condition may hold by a new entry of this package.
+    /// Opens the waiting lines whose condition may hold by this new entry.
     pub fn open_waiting(
         &mut self,
+        catalogue: &Catalogue,
         version: VersionNo,
-        package: Option<u32>,
     ) -> Result<(), AllocError>
         ensures opened { OnOk result
             (Reopens self.old.again self.new.again self.old.below
             self.old.waiting self.new.waiting
-            (IsVersionKey version.0 «package»)) }
+            (IsKeyAt (listed catalogue.now) version.0)) }
         ensures below { OnOk result (self.new.below ≡ self.old.below) }
         ensures closed { OnOk result (self.new.closed ≡ self.old.closed) }
         ensures spent { OnOk result (self.new.spent ≡ self.old.spent) }
@@ -329,8 +331,8 @@ impl OpenLines {
             &mut self.again,
             self.below,
             &mut self.waiting,
+            catalogue,
             version,
-            package,
         )?;
         Ok(())
     }

@@ -152,6 +152,13 @@ impl PackageLines {
         }
     }
 
+    /// Whether no line was kept.
+    pub fn is_empty(&self) -> bool
+        ensures { result ≡ true → (k i : ℕ) → is_kept self.now k i ≡ true → ⊥ }
+    {
+        self.lines.is_empty()
+    }
+
     /// Keeps the line by the key.
     fn add(&mut self, key: u32, line: usize) -> Result<(), AllocError>
         ensures added { OnOk result (is_kept self.new key line ≡ true) }

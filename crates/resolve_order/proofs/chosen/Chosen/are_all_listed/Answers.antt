@@ -11,7 +11,7 @@ loop-version-preserved c = λ catalogue chosen entries h.
     let at = subst (λ (ns : List VersionNo). slice_get ns (length ns - 1) ≡ Some c.in-Some.version) c.deref.ensures.value last in
     let rest = subst (λ k. c.pop.new.self.items ≡ take (k - 1) x.left.items) (sym c.deref.ensures.len ∙ ap (λ (ns : List VersionNo). length ns) c.deref.ensures.value) c.pop.ensures.rest in
     drops catalogue x (record x { left = c.pop.new.self }) chosen entries c.in-Some.version (popped x.left.items c.pop.new.self.items c.in-Some.version rest at)
-    (sym c.is_unlisted.ensures ∙ c.if-is_unlisted.false) refl refl refl refl refl (c.loop-version.invariant catalogue chosen entries h)
+    (sym c.is_unlisted.ensures ∙ c.if-is_unlisted.false) refl refl refl refl (c.loop-version.invariant catalogue chosen entries h)
 
 pub returns-clause-listed : goal.returns-clause-listed
 returns-clause-listed c = λ _ catalogue chosen entries h.

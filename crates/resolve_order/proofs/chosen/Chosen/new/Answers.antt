@@ -30,7 +30,6 @@ returns c = record {
   among = search rules;
   known = search rules;
   left = search rules;
-  packages = search rules;
 }
   where
     flag : (n : ℕ) → n < length (listed c.args.catalogue.now) → slice_get c.resize.new.self.items n ≡ Some false

@@ -57,7 +57,7 @@ returns-clause-listed c = λ seen chosen is h.
     let E = entries_in catalogue x in
     let F = entries_in catalogue y in
     let r = ready catalogue request chosen seen x kept c.are_all_listed.ensures.holds h in
-    let opened = subst (λ (rs : List Reason). OthersAreIdle catalogue request seen E rs x.open_lines → OthersAreIdle catalogue request chosen E rs c.open_chosen.new.self) c.deref.ensures.value (c.in_ok-open_chosen.ensures seen chosen E is r.holds) r.idle in
+    let opened = subst (λ (rs : List Reason). OthersAreIdle catalogue request seen E rs x.open_lines → OthersAreIdle catalogue request chosen E rs c.open_chosen.new.self) c.deref.ensures.value (c.in_ok-open_chosen.ensures seen chosen E is) r.idle in
     let before = c.loop-entry.invariant chosen (seen_all catalogue request chosen seen (record x { chosen = kept }) c.open_chosen.new.self opened r) in
     let l = before.listing in
     let idle = subst (λ (rs : List Reason). OthersAreIdle catalogue request chosen F rs y.open_lines → OthersAreIdle catalogue request chosen F rs c.next.new.self) c.deref-in-loop-entry.ensures.value (c.in_ok-entry.ensures.idle chosen F l.holds) l.idle in
@@ -73,7 +73,7 @@ returns-clause-complete c = λ seen chosen is h.
     let E = entries_in catalogue x in
     let F = entries_in catalogue y in
     let r = ready catalogue request chosen seen x kept c.are_all_listed.ensures.holds h in
-    let opened = subst (λ (rs : List Reason). OthersAreIdle catalogue request seen E rs x.open_lines → OthersAreIdle catalogue request chosen E rs c.open_chosen.new.self) c.deref.ensures.value (c.in_ok-open_chosen.ensures seen chosen E is r.holds) r.idle in
+    let opened = subst (λ (rs : List Reason). OthersAreIdle catalogue request seen E rs x.open_lines → OthersAreIdle catalogue request chosen E rs c.open_chosen.new.self) c.deref.ensures.value (c.in_ok-open_chosen.ensures seen chosen E is) r.idle in
     let l = (c.loop-entry.invariant chosen (seen_all catalogue request chosen seen (record x { chosen = kept }) c.open_chosen.new.self opened r)).listing in
     subst (IsFound catalogue request chosen F) c.in_default.is
     (subst (λ (rs : List Reason). AreLines catalogue request F rs → OthersAreIdle catalogue request chosen F rs y.open_lines → IsFound catalogue request chosen F c.in_ok-entry.field-0) c.deref-in-loop-entry.ensures.value (c.in_ok-entry.ensures.found chosen F l.holds) l.lines l.idle)

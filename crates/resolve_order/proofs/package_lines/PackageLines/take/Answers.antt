@@ -1,4 +1,4 @@
-use Rattle.std.proofs.Common.{◌≡◌, ◌∙◌, ℕ, Option, Some, None, true, false, sym, subst}
+use Rattle.std.proofs.Common.{◌≡◌, ◌∙◌, ℕ, Option, true, sym, subst}
 use Rattle.resolve_order.specs.Keys.{places_of}
 use Rattle.resolve_order.specs.Kept.{has_line, list_at}
 use Rattle.resolve_order.proofs.KeyLemmas.{others_keep, true_false}
