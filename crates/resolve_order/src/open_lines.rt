@@ -133,8 +133,9 @@ fn reopen_by(
 {
     let mut lines = kept.take(key);
     while let Some(line) = lines.pop() {
-        if line < below {
-            again.insert(line)?;
+        let place = line as usize;
+        if place < below {
+            again.insert(place)?;
         }
     }
     Ok(())

@@ -2,7 +2,7 @@
 //! known by its place in the list of all lines. The key of a SPEC is the number of the one version
 //! that it may match, or else that of its package's first version. Used by `open_lines`.
 
-ghost use Rattle.std.specs.Prelude.{◌≡◌, ◌≤◌, ◌∷◌, [], ℕ, true, Some, OnOk, List, length, slice_get};
+ghost use Rattle.std.specs.Prelude.{◌≡◌, ◌≤◌, ◌∷◌, [], ℕ, true, Some, IfOk, OnOk, List, length, slice_get};
 ghost use Rattle.std.specs.Option.{option_map};
 ghost use Rattle.resolvo_text.specs.Line as content;
 ghost use Rattle.resolvo_text.specs.View.{spec_of, cond_of, condition_of};
@@ -26,11 +26,22 @@ pub struct PackageLines {
     /// The numbers of the keys that have had lines.
     keys: KeyNumbers,
     /// The lines of each key, by its number. The last numbers may have no place.
-    lines: Vec<Vec<usize>>,
+    lines: Vec<Vec<u32>>,
+}
+
+/// A place in the list of all lines. There are fewer than 2^32, and one more is refused as for want
+/// of memory.
+fn short(line: usize) -> Result<u32, AllocError>
+    ensures { IfOk result (λ short. short ≡ line) }
+{
+    if line > 4_294_967_295 {
+        return Err(AllocError);
+    }
+    Ok(line as u32)
 }
 
 /// Makes a list of places this long, where it is shorter. The new places have no lines.
-fn lengthen(alloc: Global, lines: &mut Vec<Vec<usize>>, count: usize) -> Result<(), AllocError>
+fn lengthen(alloc: Global, lines: &mut Vec<Vec<u32>>, count: usize) -> Result<(), AllocError>
     ensures same { (key i : ℕ)
         → has_line (slice_get lines.new.items key) i
         ≡ has_line (slice_get lines.old.items key) i }
@@ -46,7 +57,7 @@ fn lengthen(alloc: Global, lines: &mut Vec<Vec<usize>>, count: usize) -> Result<
 const FEW: usize = 16;
 
 /// Drops what a list has twice, and makes room for as many lines again.
-fn drop_repeated(lines: &mut Vec<usize>) -> Result<(), AllocError>
+fn drop_repeated(lines: &mut Vec<u32>) -> Result<(), AllocError>
     ensures kept { (i : ℕ)
         → has_line (Some lines.old) i ≡ true
         → has_line (Some lines.new) i ≡ true }
@@ -59,7 +70,7 @@ fn drop_repeated(lines: &mut Vec<usize>) -> Result<(), AllocError>
 
 /// Adds a line to those of a key, if it isn't the last of them. A long list that is full drops what
 /// it has twice before it grows: a line may be closed many times.
-fn add_line(lines: &mut Vec<usize>, line: usize) -> Result<(), AllocError>
+fn add_line(lines: &mut Vec<u32>, line: u32) -> Result<(), AllocError>
     ensures added { OnOk result (has_line (Some lines.new) line ≡ true) }
     ensures kept { OnOk result
         ((i : ℕ)
@@ -81,9 +92,9 @@ fn add_line(lines: &mut Vec<usize>, line: usize) -> Result<(), AllocError>
 /// Adds a line to those of a number, which may have no place yet.
 fn add_numbered(
     alloc: Global,
-    lines: &mut Vec<Vec<usize>>,
+    lines: &mut Vec<Vec<u32>>,
     number: u32,
-    line: usize,
+    line: u32,
 ) -> Result<(), AllocError>
     ensures added { OnOk result (has_line (slice_get lines.new.items number) line ≡ true) }
     ensures kept { OnOk result
@@ -97,7 +108,7 @@ fn add_numbered(
 }
 
 /// Takes the lines of a number out.
-fn take_numbered(alloc: Global, lines: &mut Vec<Vec<usize>>, number: u32) -> Vec<usize>
+fn take_numbered(alloc: Global, lines: &mut Vec<Vec<u32>>, number: u32) -> Vec<u32>
     ensures taken { (i : ℕ)
         → has_line (slice_get lines.old.items number) i ≡ true
         → has_line (Some result) i ≡ true }
@@ -164,8 +175,9 @@ impl PackageLines {
         ensures added { OnOk result (is_kept self.new key line ≡ true) }
         ensures kept { OnOk result (KeepsAll self.old self.new) }
     {
+        let kept = short(line)?;
         let number = self.keys.put(key)?;
-        add_numbered(self.alloc, &mut self.lines, number, line)
+        add_numbered(self.alloc, &mut self.lines, number, kept)
     }
 
     /// The same by the key of the SPEC, if it has one.
@@ -344,7 +356,7 @@ impl PackageLines {
     }
 
     /// Takes the lines of the key out.
-    pub fn take(&mut self, key: u32) -> Vec<usize>
+    pub fn take(&mut self, key: u32) -> Vec<u32>
         ensures taken { (i : ℕ)
             → is_kept self.old key i ≡ true
             → has_line (Some result) i ≡ true }
