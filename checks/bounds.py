@@ -1,5 +1,6 @@
 #!/usr/bin/env python3
-"""Runs the program on texts at their bounds: a catalogue or request of 2^24 bytes, standard input of 2^25, a report of 2^30.
+"""Runs the program on texts at their bounds: a catalogue or request of 2^24 bytes, standard input of 2^25, a report of 2^30, and
+more chosen packages than 2^16.
 
 Usage: checks/bounds.py [PATH OF THE PROGRAM] [small]   (default: crates/resolve/out/resolve, which `rt run` leaves)
 Status 1 where an answer isn't as promised. With `small` no report of 2^30 bytes is judged; that test writes a file of this size.
@@ -26,6 +27,15 @@ def comment(count, newline=False):
     return b"#" + b"x" * (count - 1 - newline) + b"\n" * newline
 
 
+def packages(count):
+    """A catalogue, a request and its report, with a package a line. The second turn chooses one more version for the last line."""
+    versions = "".join(f"version p{k} 1\n" for k in range(count)) + "version q 1\nneeds s\nversion s 1\n"
+    needs = "".join(f"needs p{k}\n" for k in range(count - 1)) + f"needs p{count - 1} | s\nwish q 1\n"
+    entries = "".join(f"p{k}=1 for request line {k + 1}\n" for k in range(count))
+    report = f"install\n{entries}q=1 wished line {count + 1}\ns=1 for request line {count}\n"
+    return versions.encode(), needs.encode(), report.encode()
+
+
 def texts():
     """What is shown, catalogue, request, output and status."""
     long, nothing = (b"too long\n", 2), (b"install\n", 0)
@@ -44,6 +54,8 @@ def texts():
         wanted = nothing if is_good else (b"fault at catalogue line 1\n", 2)
         yield f"byte {byte} behind a version", b"version a 1" + bytes([byte]), b"", *wanted
         yield f"byte {byte} in a comment", b"#" + bytes([byte]) + b"\n", b"", *nothing
+    # their numbers don't fit into two bytes (key_places.rt of resolve_order)
+    yield "more packages than 2^16", *packages(70_000), 0
 
 
 def inputs():
