@@ -6,7 +6,6 @@ use Rattle.std.specs.Set.{remove_key}
 use Rattle.std.proofs.lemmas.Bool.{cases_Bool, false≢true, and_parts}
 use Rattle.std.proofs.lemmas.List.Elements.{Contains-append_right}
 use Rattle.std.proofs.lemmas.List.Sorted.{Contains-permutation}
-use Rattle.std.proofs.lemmas.Option.{slice_get-get_or, slice_get_within}
 use Rattle.resolvo_text.specs.Line.{Version, Spec, Line}
 use Rattle.resolvo_text.specs.Matches as texts
 use Rattle.resolvo_catalogue_core.specs.Listed.{listed}
@@ -19,7 +18,7 @@ use Rattle.resolvo_terms.specs.Terms.{NameId}
 use Rattle.resolvo_catalogue.specs.Ids.{SolvableId, solvable_id, solvables_of, IsSpec}
 use Rattle.resolvo_catalogue.specs.Known.{set_at}
 use Rattle.resolvo_catalogue.specs.Marked.{IsMarked}
-use Rattle.resolvo_catalogue.specs.Provider.{Provider, candidates_of, listing_if_any, matches, marks_at, no_marks, packages_of}
+use Rattle.resolvo_catalogue.specs.Provider.{Provider, candidates_of, listing_if_any, matches, marks_at, packages_of}
 use Rattle.resolvo_catalogue.specs.KeptSets.{DistinguishesIds}
 use Rattle.resolvo_catalogue.specs.Over.{IsOver}
 use Rattle.resolvo_catalogue.specs.CandidateOrder.{matching, IsOrder}
@@ -91,7 +90,7 @@ module _ (p : Provider) (catalogue : List Line) (over : IsOver catalogue p) (sam
       go false = c
 
   marks_of : (s : SolvableId) (v : Version) → slice_get (listed catalogue) s.raw ≡ Some v → IsMarked p.ids catalogue catalogue v (marks_at p s)
-  marks_of s v e = over.marks.each s.raw (marks_at p s) v (slice_get-get_or p.marks s.raw no_marks (rw over.marks.as_many (slice_get_within (listed catalogue) s.raw v e))) e
+  marks_of s v e = over.marks s.raw v e
 
   module _ (w : VersionSetId) where
     abbrev name : NameId

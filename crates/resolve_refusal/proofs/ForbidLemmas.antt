@@ -22,7 +22,7 @@ use Rattle.resolvo_catalogue.specs.Ids.{SolvableId, IsPackage, IsWord, solvable_
 use Rattle.resolvo_catalogue.specs.Known.{name_of, word_text}
 use Rattle.resolvo_catalogue.specs.Dependencies.{IsReason, VersionDependencies, reason_in, lines_at, no_lines}
 use Rattle.resolvo_catalogue.specs.Marked.{IsExclusion, IsMarked}
-use Rattle.resolvo_catalogue.specs.Provider.{Provider, packages_of, listing_if_any, exclusions_of, marks_at, deps_at, no_marks, needs_of}
+use Rattle.resolvo_catalogue.specs.Provider.{Provider, packages_of, listing_if_any, exclusions_of, marks_at, deps_at, needs_of}
 use Rattle.resolvo_catalogue.specs.Over.{IsOver}
 use Rattle.resolvo_catalogue.specs.KeptSets.{DistinguishesIds}
 use Rattle.resolvo_catalogue.proofs.Alike.{is_package, in_from, candidate, listed_is}
@@ -131,7 +131,7 @@ module _ (catalogue : List Line) (p : Provider) (over : IsOver catalogue p) (sam
   apart s t = (exact.one s t, λ e. subst (λ x. same s x ≡ true) e (exact.own s))
 
   marks_of : (s : SolvableId) (v : Version) → slice_get (listed catalogue) s.raw ≡ Some v → IsMarked p.ids catalogue catalogue v (marks_at p s)
-  marks_of s v e = over.marks.each s.raw (marks_at p s) v (slice_get-get_or p.marks s.raw no_marks (rw over.marks.as_many (slice_get_within (listed catalogue) s.raw v e))) e
+  marks_of s v e = over.marks s.raw v e
 
   -- a lock or an exclusion is a line
   forbidden_from : (s : SolvableId) (v : Version) → slice_get (listed catalogue) s.raw ≡ Some v → is_forbidden same (packages_of p) s ≡ true

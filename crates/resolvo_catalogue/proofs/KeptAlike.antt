@@ -6,7 +6,7 @@ use Rattle.std.specs.Option.{option_map_or}
 use Rattle.std.proofs.lemmas.Bool.{false≢true, eqb-true, or_cases, or_parts}
 use Rattle.std.proofs.lemmas.Bool.Decides.{Decides-eqb}
 use Rattle.std.proofs.lemmas.Slice.Eq.{bytes_eq-Decides}
-use Rattle.std.proofs.lemmas.Option.{slice_get-get_or, slice_get_within, slice_get-map, get_or_from_slice_get}
+use Rattle.std.proofs.lemmas.Option.{slice_get-get_or, slice_get_within}
 use Rattle.resolvo_text.specs.Line.{Version, Spec, Cond, Line, Skipped, Listed, Needs, Limits, Unknown, Lock, Favour, Exclude, Many, Wish}
 use Rattle.resolvo_text.specs.Matches as lines
 use Rattle.resolvo_text.specs.Matches.{Set, same_version, same_package}
@@ -29,11 +29,11 @@ use Rattle.resolvo_terms.specs.Terms.{NameId, AreEach}
 use Rattle.resolvo_catalogue.specs.Ids.{SolvableId, solvable_id, solvables_of, IsNeed, IsSpec, IsSolvable, IsPackage, Interns, AreSound}
 use Rattle.resolvo_catalogue.specs.Known.{name_of}
 use Rattle.resolvo_catalogue.specs.Dependencies.{need_in, limit_in, reason_in, lines_at, no_lines}
-use Rattle.resolvo_catalogue.specs.Marked.{IsMarked}
-use Rattle.resolvo_catalogue.specs.Provider.{Provider, candidates_of, listing_of, exclusions_of, marks_at, many_at, are_many, deps_at, dependencies_of, no_marks, packages_of}
+use Rattle.resolvo_catalogue.specs.Marked.{IsMarked, AreMarksOf, AreMany}
+use Rattle.resolvo_catalogue.specs.Provider.{Provider, candidates_of, listing_of, exclusions_of, marks_at, many_at, are_many, deps_at, dependencies_of, packages_of}
 use Rattle.resolvo_catalogue.specs.Over.{IsOver, AreDependenciesAt}
 use Rattle.resolvo_catalogue.specs.KeptSets.{Represents, DistinguishesIds, KeepsAlike, KeepsAlikeExempt}
-use Rattle.resolvo_catalogue.proofs.MarkLemmas.{one_some, marked_stays}
+use Rattle.resolvo_catalogue.proofs.MarkLemmas.{one_some, marks_stay}
 use Rattle.resolvo_catalogue.proofs.PassLemmas.{any_from, any_to, all_from, all_to}
 use Rattle.resolvo_catalogue.proofs.Elements.{flat_from, flat_to, option_to, each_from_left, each_from_right, need_from, limit_from, reason_from, from_lines, to_lines}
 use Rattle.resolvo_catalogue.proofs.Alike.{listed_is, member_place, is_package, in_from, in_to, candidate, outside_same, need_binds, meets_same}
@@ -48,7 +48,7 @@ module _ (p : Provider) (catalogue : List Line) (over : IsOver catalogue p) (sam
   deps_of_it s v e = over.deps.each s.raw (deps_at p s) (slice_get-get_or p.deps s.raw no_lines (rw over.deps.as_many (slice_get_within (listed catalogue) s.raw v e)))
 
   marks_of_it : (s : SolvableId) (v : Version) → slice_get (listed catalogue) s.raw ≡ Some v → IsMarked p.ids catalogue catalogue v (marks_at p s)
-  marks_of_it s v e = over.marks.each s.raw (marks_at p s) v (slice_get-get_or p.marks s.raw no_marks (rw over.marks.as_many (slice_get_within (listed catalogue) s.raw v e))) e
+  marks_of_it s v e = over.marks s.raw v e
 
   named : (s : SolvableId) (v : Version) → slice_get (listed catalogue) s.raw ≡ Some v → IsPackage p.ids (name_of p.ids s) v.name
   named s v e = is_package p (listed catalogue) over.versions over.once same apart s v e
@@ -85,8 +85,7 @@ module _ (p : Provider) (catalogue : List Line) (over : IsOver catalogue p) (sam
   -- ---- the mark of a package
 
   many_of_it : (s : SolvableId) (v : Version) → slice_get (listed catalogue) s.raw ≡ Some v → many_at p s ≡ texts_sets.is_many catalogue v.name
-  many_of_it s v e = get_or_from_slice_get p.many s.raw (texts_sets.is_many catalogue v.name) false (ap (λ (flags : List Bool). slice_get flags s.raw) over.many
-      ∙ slice_get-map (λ (w : Version). texts_sets.is_many catalogue w.name) (listed catalogue) s.raw ∙ ap (option_map (λ (w : Version). texts_sets.is_many catalogue w.name)) e)
+  many_of_it s v e = over.many s.raw v e
 
   many_of_each : (n : NameId) (name : List ℕ) → IsPackage p.ids n name → (ss : List SolvableId) → ((t : SolvableId) → Contains ss t → Contains (solvables_of p.ids n.raw) t) → (s : SolvableId) → Contains ss s → are_many p ss ≡ texts_sets.is_many catalogue name
   many_of_each n name is [] among s h = absurd (no_element s h)
@@ -395,8 +394,8 @@ over_stays a b more deps marks many once catalogue over = record {
     as_many = rw deps over.deps.as_many;
     each = rw deps (deps_stay a.ids b.ids more.grows catalogue a.deps over.deps.each);
   };
-  marks = rw marks (marked_stays a.ids b.ids more.grows catalogue catalogue (listed catalogue) a.marks over.marks);
-  many = many ∙ over.many;
+  marks = subst (λ (ms : _). AreMarksOf b.ids catalogue (listed catalogue) ms) (sym marks) (marks_stay a.ids b.ids more.grows catalogue (listed catalogue) a.marks over.marks);
+  many = subst (λ (flags : _). AreMany catalogue flags) (sym many) over.many;
   once = once;
   distinct = over.distinct;
   grammatical = over.grammatical;

@@ -1,20 +1,22 @@
 -- The marks of versions, line by line.
-use Rattle.std.proofs.Common.{◌≡◌, inl, inr, ℕ, zero, suc, ◌<◌, ◌≤◌, ◌==◌, true, false, List, [], ◌∷◌, ◌++◌, ◌+◌, take, get_or, length, Option, Some, None, refl, sym, ap, subst, ◌∙◌, add-one, arith}
-use Rattle.std.specs.Prelude.{Contains, slice_get, option_to_list, map}
+use Rattle.std.proofs.Common.{◌≡◌, inl, inr, ℕ, zero, suc, ◌<◌, ◌≤◌, ◌==◌, Bool, true, false, List, [], ◌∷◌, ◌++◌, ◌+◌, take, get_or, length, Option, Some, None, refl, sym, ap, subst, ◌∙◌, add-one, arith}
+use Rattle.std.specs.Prelude.{Contains, slice_get, slice_index_or, option_to_list, map}
 use Rattle.std.specs.List.{slice_set, flat_map}
+use Rattle.std.specs.Option.{option_map}
 use Rattle.std.proofs.lemmas.Bool.{cases_Bool, false≢true}
 use Rattle.std.proofs.lemmas.Bool.Decides.{Decides-eqb}
-use Rattle.std.proofs.lemmas.Option.{slice_get_within}
+use Rattle.std.proofs.lemmas.Option.{slice_get_within, slice_get-get_or, slice_get-map, get_or_from_slice_get}
 use Rattle.std.proofs.lemmas.List.{append-nil, take_more, length-take}
 use Rattle.resolvo_catalogue.proofs.DependencyLemmas.{last_piece}
 use Rattle.resolvo_catalogue_core.specs.declared.rule.VersionNo.{VersionNo}
 use Rattle.resolvo_catalogue_core.specs.Questions.{is_rule, AreAll, LineIs, IsFavour, FavoursAt}
 use Rattle.std.proofs.lemmas.List.Elements.{Contains-append_left, Contains-push, Contains-push_cases}
 use Rattle.resolvo_text.specs.Line.{Version, Spec, Cond, Line, Needs, Limits, Unknown, Lock, Favour, Exclude}
-use Rattle.resolvo_catalogue_core.specs.Listed.{AreDistinct}
+use Rattle.resolvo_catalogue_core.specs.Sets.{is_many}
+use Rattle.resolvo_catalogue_core.specs.Listed.{listed, AreDistinct}
 use Rattle.resolvo_pool_core.specs.declared.id.StringId.{StringId}
 use Rattle.resolvo_catalogue.specs.Ids.{Ids, IsWord, Grows}
-use Rattle.resolvo_catalogue.specs.Marked.{IsExclusion, IsMarked, AreMarked, HaveNoMarks}
+use Rattle.resolvo_catalogue.specs.Marked.{IsExclusion, IsMarked, AreMarked, AreMarksOf, AreMany, HaveNoMarks, HaveNone, no_marks}
 use Rattle.resolvo_catalogue.specs.declared.candidate_flags.CandidateFlags.{CandidateFlags}
 use Rattle.resolvo_terms.proofs.Places.{get_new, set_at, set_others, set_length, no_element, first_element, later_element, element_cases, at_from_contains}
 use Rattle.std.proofs.lemmas.List.Concat.{flat_map-cons}
@@ -70,11 +72,11 @@ module _ (ids : Ids) (lines favours : List Line) (v : Version) (m : CandidateFla
 
 -- ---- all versions
 
-pub marked_stays : (a b : Ids) → Grows a b → (lines favours : List Line) (versions : List Version) (marks : List CandidateFlags) → AreMarked a lines favours versions marks → AreMarked b lines favours versions marks
-marked_stays a b grows lines favours versions marks h = record {
-  as_many = h.as_many;
-  each = λ k m v e f. let own = h.each k m v e f in record { locked = own.locked; favored = own.favored; excluded = exclusion_stays a b grows lines v m.excluded own.excluded; line = own.line };
-}
+pub marks_stay : (a b : Ids) → Grows a b → (lines : List Line) (versions : List Version) (marks : List CandidateFlags) → AreMarksOf a lines versions marks → AreMarksOf b lines versions marks
+marks_stay a b grows lines versions marks h = λ k v at.
+    let m = slice_index_or marks k no_marks in
+    let own = h k v at in
+    record { locked = own.locked; favored = own.favored; excluded = exclusion_stays a b grows lines v m.excluded own.excluded; line = own.line }
 
 module _ (ids : Ids) (lines favours : List Line) (versions : List Version) (marks : List CandidateFlags) (distinct : AreDistinct versions) (h : AreMarked ids lines favours versions marks) where
   pub marked_other : (line : Line) → ((v : Version) → line ≡ Lock v → ⊥) → ((v : Version) (word : List ℕ) → line ≡ Exclude v word → ⊥) → AreMarked ids (lines ++ line ∷ []) favours versions marks
@@ -188,6 +190,32 @@ all_favours ids lines versions marks fs all are h = record {
     line = own.line;
   };
 }
+
+pub marks_by_number : (ids : Ids) (lines : List Line) (versions : List Version) (marks : List CandidateFlags) → AreMarked ids lines lines versions marks → AreMarksOf ids lines versions marks
+marks_by_number ids lines versions marks h = λ k v at. h.each k (slice_index_or marks k no_marks) v (slice_get-get_or marks k no_marks (rw h.as_many (slice_get_within versions k v at))) at
+
+-- ---- no marks
+
+pub no_favours : (lines : List Line) (fs : List (ℕ × VersionNo)) (v : Version) → AreAll (map (λ f. f.0) fs) (λ n. LineIs lines n IsFavour) → length fs ≡ 0 → Contains lines (Favour v) → ⊥
+no_favours lines [] v all none has = let at = at_from_contains lines (Favour v) has in no_element (suc at.0) ((all.all (suc at.0)).1 (Favour v, at.1, tt))
+no_favours lines (f ∷ fs) v all none has = omega (arith, none)
+
+pub none_marked : (ids : Ids) (lines : List Line) (versions : List Version) (marks : List CandidateFlags) → HaveNone lines versions → marks ≡ [] → AreMarksOf ids lines versions marks
+none_marked ids lines versions marks none is = subst (λ (ms : List CandidateFlags). AreMarksOf ids lines versions ms) (sym is) each
+  where
+    each : AreMarksOf ids lines versions []
+    each k v at = record {
+      locked = (λ e. absurd (false≢true e), λ has. absurd ((none.0 k v at).0 has));
+      favored = (λ e. absurd (false≢true e), λ has. absurd (none.1 v has));
+      excluded = (none.0 k v at).1;
+      line = λ w e. absurd cc;
+    }
+
+pub many_by_number : (lines : List Line) (flags : List Bool) → flags ≡ map (λ v. is_many lines v.name) (listed lines) → AreMany lines flags
+many_by_number lines flags is k v at = get_or_from_slice_get flags k (is_many lines v.name) false (ap (λ (xs : List Bool). slice_get xs k) is ∙ slice_get-map (λ (w : Version). is_many lines w.name) (listed lines) k ∙ ap (option_map (λ (w : Version). is_many lines w.name)) at)
+
+pub none_many : (lines : List Line) (flags : List Bool) → ((name : List ℕ) → is_many lines name ≡ false) → flags ≡ [] → AreMany lines flags
+none_many lines flags none is k v at = ap (λ (xs : List Bool). slice_index_or xs k false) is ∙ sym (none v.name)
 
 -- the number of the line below some
 pub next_number : (n : ℕ) (lines : List Line) → n ≤ length lines → n + 1 ≡ length (take n lines) + 1

@@ -8,7 +8,7 @@ use Rattle.resolvo_catalogue_core.specs.Questions.{ReadRequest, AreAll, IsVersio
 use Rattle.resolvo_catalogue.specs.Ids.{Ids, Interns, AreSound, AreVersions, IsNeed, IsSpec, solvable_id}
 use Rattle.resolvo_terms.specs.Terms.{AreEach}
 use Rattle.resolvo_catalogue.specs.Dependencies.{VersionDependencies, AreDependenciesOf, lines_at, need_in, limit_in}
-use Rattle.resolvo_catalogue.specs.Marked.{AreMarked, AreMany}
+use Rattle.resolvo_catalogue.specs.Marked.{AreMarksOf, AreMany}
 use Rattle.resolvo_catalogue.specs.Provider.{Provider}
 use Rattle.resolvo_catalogue.specs.declared.provider.RequestIds.{RequestIds}
 
@@ -26,7 +26,7 @@ pub record IsOver (lines : List Line) (p : Provider) : Type 0 where
   pub versions : AreVersions p.ids (listed lines)
   -- its requirements, constraints and marks are those of its lines
   pub deps : AreDependencies p.ids lines p.deps
-  pub marks : AreMarked p.ids lines lines (listed lines) p.marks
+  pub marks : AreMarksOf p.ids lines (listed lines) p.marks
   pub many : AreMany lines p.many
   -- no value has two ids
   pub once : AreSound p.ids

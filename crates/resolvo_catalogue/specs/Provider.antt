@@ -12,6 +12,7 @@ use Rattle.resolvo_terms.specs.Terms.{NameId}
 use Rattle.resolvo_catalogue.specs.Known.{solvable_at, name_of, set_at, members_of, condition_at}
 use Rattle.resolvo_catalogue.specs.Sorted.{sorted_by}
 use Rattle.resolvo_catalogue.specs.Dependencies.{VersionDependencies, no_lines}
+use Rattle.resolvo_catalogue.specs.Marked.{no_marks}
 use Rattle.resolvo_catalogue.specs.declared.candidate_flags.CandidateFlags.{CandidateFlags}
 use Rattle.resolvo_catalogue.specs.declared.provider.Hint as hints
 use Rattle.resolvo_catalogue.specs.declared.provider.Hint.TheVariants as hint
@@ -34,9 +35,6 @@ abbrev pub matches : Provider → VersionSetId → SolvableId → Bool
 matches p v s = (name_of p.ids s).raw == (set_at p.ids v).0.raw && is_in_span (set_at p.ids v).1.0 (solvable_at p.ids s).version
 
 -- ---- candidates
-
-abbrev pub no_marks : CandidateFlags
-no_marks = record { locked = false; favored = false; excluded = None; line = 0 }
 
 abbrev pub marks_at : Provider → SolvableId → CandidateFlags
 marks_at p s = slice_index_or p.marks s.raw no_marks

@@ -1,6 +1,6 @@
 //! The marks of each version in the lines of a catalogue: locked, favoured, excluded.
 
-ghost use Rattle.std.specs.Prelude.{◌≡◌, ◌⊎◌, ◌≤◌, ◌<◌, ◌+◌, ◌++◌, ◌∷◌, [], IfOk, IsOkUnless, List, Option, Some, length, slice_get};
+ghost use Rattle.std.specs.Prelude.{◌≡◌, ◌⊎◌, false, ◌≤◌, ◌<◌, ◌+◌, ◌++◌, ◌∷◌, [], IfOk, IsOkUnless, List, Option, Some, length, slice_get};
 ghost use Rattle.resolvo_pool_core.specs.declared.want.Want.TheVariants.{Memory};
 ghost use Rattle.resolvo_text.specs.Line.{Version, Line, Favour};
 ghost use Rattle.resolvo_catalogue_core.specs.Kept.{IsKeptLine};
@@ -8,7 +8,7 @@ ghost use Rattle.resolvo_catalogue_core.specs.Sets.{is_many};
 ghost use Rattle.resolvo_catalogue_core.specs.Listed.{listed, AreDistinct};
 ghost use Rattle.resolvo_catalogue.specs.Ids.{Ids, terms_of};
 ghost use Rattle.resolvo_terms.specs.Known.{name_text};
-ghost use Rattle.resolvo_catalogue.specs.Marked.{AreMarked, AreMany, HaveNoMarks};
+ghost use Rattle.resolvo_catalogue.specs.Marked.{AreMarked, AreMarksOf, AreMany, HaveNoMarks, HaveNone};
 
 use resolvo_catalogue_core::{Catalogue, KeptLines, KeptRule, VersionNo};
 use resolvo_pool_core::id::{NameId, StringId};
@@ -34,7 +34,21 @@ const NO_FLAGS: CandidateFlags = CandidateFlags {
     line: 0,
 };
 
-/// The marks of each version, by its number.
+/// Whether a line locks, excludes or favours a version.
+fn is_marked(kept: &KeptLines<'_>, catalogue: &Catalogue) -> bool
+    requires { kept.now.lines ≡ catalogue.now }
+    ensures { result ≡ false → HaveNone catalogue.now (listed catalogue.now) }
+{
+    if kept.has_marks() {
+        return true;
+    }
+    if catalogue.favours().is_empty() {
+        return false;
+    }
+    true
+}
+
+/// The marks of each version, by its number. Most catalogues have none, and then there is no list.
 pub fn marks_of(
     alloc: Global,
     kept: &KeptLines<'_>,
@@ -45,9 +59,12 @@ pub fn marks_of(
         (λ marks.
         (ids : Ids)
         → terms_of ids ≡ kept.now.terms
-        → AreMarked ids catalogue.now catalogue.now (listed catalogue.now) marks.items) }
+        → AreMarksOf ids catalogue.now (listed catalogue.now) marks.items) }
     ensures refusal { IsOkUnless result Memory }
 {
+    if !is_marked(kept, catalogue) {
+        return Ok(Vec::new(alloc));
+    }
     let mut marks = unmarked(alloc, catalogue.versions().len())?;
     for line in 0..lines_to_mark(kept) {
         if let Some(rule) = kept.rule(line + 1) {
@@ -72,12 +89,16 @@ fn lines_to_mark(kept: &KeptLines<'_>) -> u32
     }
 }
 
-/// Of each version, by its number, whether its package is marked `many`.
+/// Of each version, by its number, whether its package is marked `many`. Where none is marked, there
+/// is no list.
 pub fn many_of(alloc: Global, kept: &KeptLines<'_>, catalogue: &Catalogue) -> R<Vec<bool>>
     requires { kept.now.lines ≡ catalogue.now }
     ensures many { IfOk result (λ flags. AreMany catalogue.now flags.items) }
     ensures refusal { IsOkUnless result Memory }
 {
+    if !catalogue.marks_many() {
+        return Ok(Vec::new(alloc));
+    }
     let terms = kept.terms();
     let versions = kept.versions();
     let mut flags = Vec::with_capacity(alloc, versions.len())?;
@@ -87,11 +108,11 @@ pub fn many_of(alloc: Global, kept: &KeptLines<'_>, catalogue: &Catalogue) -> R<
     Ok(flags)
 }
 
-/// Whether the package of this number is marked `many`. No name is looked at where none is.
+/// Whether the package of this number is marked `many`.
 fn is_many(catalogue: &Catalogue, terms: &Terms, name: NameId) -> bool
     ensures { result ≡ is_many catalogue.now (name_text terms.now name) }
 {
-    catalogue.marks_many() && catalogue.is_many(terms.name(name))
+    catalogue.is_many(terms.name(name))
 }
 
 /// No marks of so many versions.

@@ -8,6 +8,7 @@ use Rattle.resolvo_catalogue_core.specs.Listed.{listed, name_at}
 use Rattle.resolvo_catalogue_core.specs.Sets.{is_many}
 use Rattle.resolvo_catalogue_core.specs.declared.versions.KeptVersion.{KeptVersion}
 use Rattle.resolvo_catalogue.proofs.ListLemmas.{flags_are}
+use Rattle.resolvo_catalogue.proofs.MarkLemmas.{many_by_number, none_many}
 use Rattle.resolvo_catalogue.proofs.candidate_flags.many_of.Goals as goal
 
 pub loop-version-preserved : goal.loop-version-preserved
@@ -31,5 +32,8 @@ returns-clause-many c =
     let vs = c.versions-versions.result.now in
     let test : KeptVersion → Bool = λ v. is_many lines (name_at kept.terms.names v.«package».raw) in
     let all : take c.loop-version.version-index vs ≡ vs = take_all c.loop-version.version-index vs c.loop-version-test.false in
-    c.loop-version.invariant ∙ (ap (map test) all ∙ (flags_are (is_many lines) kept.terms.names vs
-    ∙ (ap (map (λ (v : Version). is_many lines v.name)) (c.versions-versions.ensures.versions ∙ ap listed c.requires))))
+    many_by_number lines c.loop-version.flags.items (c.loop-version.invariant ∙ (ap (map test) all ∙ (flags_are (is_many lines) kept.terms.names vs
+    ∙ (ap (map (λ (v : Version). is_many lines v.name)) (c.versions-versions.ensures.versions ∙ ap listed c.requires)))))
+
+pub returns-then-not-marks_many-clause-many : goal.returns-then-not-marks_many-clause-many
+returns-then-not-marks_many-clause-many c = none_many c.args.catalogue.now c.new.result.items (c.marks_many.ensures.none c.if-not-marks_many.true) c.new.ensures.items

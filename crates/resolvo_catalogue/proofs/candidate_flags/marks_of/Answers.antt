@@ -3,9 +3,12 @@ use Rattle.std.proofs.lemmas.List.{take_all}
 use Rattle.std.proofs.lemmas.Option.{slice_get-get_or}
 use Rattle.resolvo_catalogue_core.specs.Listed.{listed}
 use Rattle.resolvo_catalogue.proofs.DependencyLemmas.{text_next, text_step}
-use Rattle.resolvo_catalogue.proofs.MarkLemmas.{next_number, marked_none, marked_by_none, favours_next, all_favours}
+use Rattle.resolvo_catalogue.proofs.MarkLemmas.{next_number, marked_none, marked_by_none, none_marked, marks_by_number, favours_next, all_favours}
 use Rattle.resolvo_catalogue.proofs.candidate_flags.marks_of.Goals as goal
 use Rattle.resolvo_catalogue.proofs.candidate_flags.marks_of.Goals.{in-Some, in_default}
+
+pub returns-then-not-is_marked-clause-marked : goal.returns-then-not-is_marked-clause-marked
+returns-then-not-is_marked-clause-marked c = λ ids same. none_marked ids c.args.catalogue.now (listed c.args.catalogue.now) c.new.result.items (c.is_marked.ensures c.if-not-is_marked.true) c.new.ensures.items
 
 pub loop-line-init : goal.loop-line-init
 loop-line-init c = λ ids same. c.in_ok-marks.ensures.marked ids (listed c.args.catalogue.now) (ap length (sym c.versions.ensures.listed) ∙ sym c.len.ensures)
@@ -42,5 +45,5 @@ loop-version-preserved c = λ ids same.
 
 pub returns-clause-marked : goal.returns-clause-marked
 returns-clause-marked c = λ ids same.
-    all_favours ids c.args.catalogue.now (listed c.args.catalogue.now) c.loop-version.marks.items c.favours-version-items.result.now c.favours-version-items.ensures.lines c.favours-version-items.ensures.versions
-    (rw (take_all c.loop-version.version-index c.favours-version-items.result.now c.loop-version-test.false) at c.loop-version.invariant ids same)
+    marks_by_number ids c.args.catalogue.now (listed c.args.catalogue.now) c.loop-version.marks.items (all_favours ids c.args.catalogue.now (listed c.args.catalogue.now) c.loop-version.marks.items c.favours-version-items.result.now c.favours-version-items.ensures.lines c.favours-version-items.ensures.versions
+    (rw (take_all c.loop-version.version-index c.favours-version-items.result.now c.loop-version-test.false) at c.loop-version.invariant ids same))
