@@ -1,5 +1,5 @@
 -- The tasks of an encoding, and what it excluded.
-use Rattle.std.specs.Prelude.{◌≡◌, ℕ, ◌+◌, ◌-◌, drop, Bool, List, [], ◌∷◌, Contains}
+use Rattle.std.specs.Prelude.{◌≡◌, ℕ, ◌+◌, ◌-◌, Bool, List, [], ◌∷◌, Contains}
 use Rattle.resolvo_pool_core.specs.declared.id.StringId.{StringId}
 use Rattle.resolvo_pool_core.specs.declared.provider.Dependencies.TheVariants.{Unknown}
 use Rattle.resolvo_pool_core.specs.Provider.{needs_of}
@@ -26,7 +26,7 @@ work (t ∷ ts) = cost t + work ts
 
 -- the cost of the tasks that are left
 abbrev pub work_left : {S : Type 0} → Tasks S → ℕ
-work_left t = work (drop t.taken t.queue.items)
+work_left t = work t.queue.items
 
 -- the cost of these, and of the questions for parents that may come
 abbrev pub bound : {S : Type 0} → Tasks S → ℕ

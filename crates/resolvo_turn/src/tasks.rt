@@ -11,6 +11,7 @@ use resolvo_pool_core::id::Exact;
 use resolvo_pool_core::solver_id::SolvableIdOrRoot;
 use resolvo_pool_core::want::R;
 use std::alloc::Global;
+use std::collections::VecDeque;
 use std::fmt::Debug;
 use std::hash::Hash;
 
@@ -31,10 +32,7 @@ pub enum Task<S> {
 /// The tasks of an encoding.
 #[derive(Drop)]
 pub struct Tasks<S> {
-    /// All tasks since there was none.
-    queue: Vec<Task<S>>,
-    /// The number of those that are taken.
-    taken: usize,
+    queue: VecDeque<Task<S>>,
     /// The number of parents with a task that asks for their dependencies.
     queued: usize,
 }
@@ -43,8 +41,7 @@ impl<S: Copy + Exact + Hash + Debug> Tasks<S> {
     /// No task.
     pub(crate) fn new(alloc: Global) -> Tasks<S> {
         Tasks {
-            queue: Vec::new(alloc),
-            taken: 0,
+            queue: VecDeque::new(alloc),
             queued: 0,
         }
     }
@@ -52,7 +49,6 @@ impl<S: Copy + Exact + Hash + Debug> Tasks<S> {
     /// An encoding begins, where so many parents are encoded: there is no task yet.
     pub(crate) fn begin(&mut self, encoded: usize) {
         self.queue.clear();
-        self.taken = 0;
         self.queued = encoded;
     }
 
@@ -62,7 +58,7 @@ impl<S: Copy + Exact + Hash + Debug> Tasks<S> {
         ensures queued { OnOk result (self.new.queued ≡ self.old.queued) }
         ensures refusal { IsOkUnless result Memory }
     {
-        self.queue.push(task)?;
+        self.queue.push_back(task)?;
         Ok(())
     }
 
@@ -71,13 +67,7 @@ impl<S: Copy + Exact + Hash + Debug> Tasks<S> {
         ensures work { IfSome result (λ task. work_left self.new + cost task ≤ work_left self.old) }
         ensures queued { self.new.queued ≡ self.old.queued }
     {
-        let task = *self.queue.get(self.taken)?;
-        self.taken += 1;
-        if self.taken == self.queue.len() {
-            self.queue.clear();
-            self.taken = 0;
-        }
-        Some(task)
+        self.queue.pop_front()
     }
 
     /// Puts a task for each parent that was added since the last call behind the others: it asks
