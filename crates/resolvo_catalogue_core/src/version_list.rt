@@ -26,7 +26,7 @@ pub struct VersionList {
 }
 
 /// The room that is made at first for the versions of a package.
-const FEW: usize = 8;
+const FEW: usize = 6;
 
 impl VersionList {
     /// A list of one version.
