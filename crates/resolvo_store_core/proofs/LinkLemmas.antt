@@ -3,8 +3,7 @@ use Rattle.std.proofs.Common.{◌≡◌, ℕ, zero, suc, ◌+◌, ◌<◌, ◌�
 use Rattle.std.specs.Prelude.{slice_get}
 use Rattle.std.proofs.lemmas.Bool.{lt-leb}
 use Rattle.std.proofs.lemmas.Bool.Decides.{eqb_tells, leb_tells}
-use Rattle.resolvo_store_core.specs.declared.watch_map.WatchLink.{WatchLink}
-use Rattle.resolvo_store_core.specs.Links.{link_of, first_at, next_at, clause_of, chain, list_in, before_in, AreLists, AreLinked}
+use Rattle.resolvo_store_core.specs.Links.{link_of, named_at, chain, list_in, before_in, AreLists, AreLinked}
 
 -- the list without the element at a place
 abbrev pub taken : ℕ → List ℕ → List ℕ
@@ -91,26 +90,26 @@ pigeon (suc m) xs below once = go (λ ys b o. pigeon m ys b o) (find m xs)
         once_taken a b n (inr k) (inl l) = let e : suc a ≡ b = once (suc a) b n k.1 l.1 in let ge : f.0 ≤ a = k.0 in let lt : b < f.0 = l.0 in absurd (omega arith)
         once_taken a b n (inr k) (inr l) = let e : suc a ≡ suc b = once (suc a) (suc b) n k.1 l.1 in omega arith
 
-pub chain_length : (links : List WatchLink) (k : ℕ) (o : Option ℕ) → length (chain links k o) ≤ k
+pub chain_length : (links : List ℕ) (k : ℕ) (o : Option ℕ) → length (chain links k o) ≤ k
 chain_length links zero o = omega arith
 chain_length links (suc k) None = omega arith
-chain_length links (suc k) (Some n) = let h : length (chain links k (next_at links n)) ≤ k = chain_length links k (next_at links n) in omega arith
+chain_length links (suc k) (Some n) = let h : length (chain links k (named_at links n)) ≤ k = chain_length links k (named_at links n) in omega arith
 
-pub chain_is : (links : List WatchLink) (xs : List ℕ) (k : ℕ) (o : Option ℕ) → o ≡ slice_get xs 0 → ((a n : ℕ) → slice_get xs a ≡ Some n → next_at links n ≡ slice_get xs (suc a)) → length xs ≤ k → chain links k o ≡ xs
+pub chain_is : (links xs : List ℕ) (k : ℕ) (o : Option ℕ) → o ≡ slice_get xs 0 → ((a n : ℕ) → slice_get xs a ≡ Some n → named_at links n ≡ slice_get xs (suc a)) → length xs ≤ k → chain links k o ≡ xs
 chain_is links [] zero o e next h = refl
 chain_is links [] (suc k) o e next h = ap (chain links (suc k)) e
 chain_is links (x ∷ xs) zero o e next h = absurd (omega arith)
-chain_is links (x ∷ xs) (suc k) o e next h = ap (chain links (suc k)) e ∙ ap (λ (ys : List ℕ). x ∷ ys) (chain_is links xs k (next_at links x) (next 0 x refl) (λ a n g. next (suc a) n g) (omega arith))
+chain_is links (x ∷ xs) (suc k) o e next h = ap (chain links (suc k)) e ∙ ap (λ (ys : List ℕ). x ∷ ys) (chain_is links xs k (named_at links x) (next 0 x refl) (λ a n g. next (suc a) n g) (omega arith))
 
 -- the links show these lists
-pub lists_are : (firsts : List ℕ) (links : List WatchLink) (lists : ℕ → List ℕ) → AreLists firsts links lists → (i : ℕ) → list_in firsts links i ≡ lists i
-lists_are firsts links lists are i = chain_is links (lists i) (length links) (first_at firsts i) (are.first i) (are.next i)
+pub lists_are : (firsts links : List ℕ) (lists : ℕ → List ℕ) → AreLists firsts links lists → (i : ℕ) → list_in firsts links i ≡ lists i
+lists_are firsts links lists are i = chain_is links (lists i) (length links) (named_at firsts i) (are.first i) (are.next i)
     (pigeon (length links) (lists i) (are.in_range i) (λ a b n e g. (are.once i i a b n e g).1))
 
-pub linked : (firsts : List ℕ) (links : List WatchLink) (lists : ℕ → List ℕ) → AreLists firsts links lists → AreLinked firsts links
+pub linked : (firsts links : List ℕ) (lists : ℕ → List ℕ) → AreLists firsts links lists → AreLinked firsts links
 linked firsts links lists are = record {
-  first = λ i. subst (λ (xs : List ℕ). first_at firsts i ≡ slice_get xs 0) (sym (is i)) (are.first i);
-  next = λ i a n. subst (λ (xs : List ℕ). slice_get xs a ≡ Some n → next_at links n ≡ slice_get xs (suc a)) (sym (is i)) (are.next i a n);
+  first = λ i. subst (λ (xs : List ℕ). named_at firsts i ≡ slice_get xs 0) (sym (is i)) (are.first i);
+  next = λ i a n. subst (λ (xs : List ℕ). slice_get xs a ≡ Some n → named_at links n ≡ slice_get xs (suc a)) (sym (is i)) (are.next i a n);
   in_range = λ i a n. subst (λ (xs : List ℕ). slice_get xs a ≡ Some n → n < length links) (sym (is i)) (are.in_range i a n);
   once = λ i j a b n. subst (λ (xs : List ℕ). slice_get xs a ≡ Some n → slice_get (list_in firsts links j) b ≡ Some n → (i ≡ j) × (a ≡ b)) (sym (is i))
       (subst (λ (ys : List ℕ). slice_get (lists i) a ≡ Some n → slice_get ys b ≡ Some n → (i ≡ j) × (a ≡ b)) (sym (is j)) (are.once i j a b n));
@@ -119,59 +118,29 @@ linked firsts links lists are = record {
     is : (i : ℕ) → list_in firsts links i ≡ lists i
     is i = lists_are firsts links lists are i
 
-pub next_at-set_same : (ls : List WatchLink) (n : ℕ) (x : WatchLink) → n < length ls → next_at (set ls n x) n ≡ link_of x.next
-next_at-set_same [] n x h = absurd (omega arith)
-next_at-set_same (l ∷ ls) zero x h = refl
-next_at-set_same (l ∷ ls) (suc n) x h = next_at-set_same ls n x (omega arith)
+pub named_at-set_same : (fs : List ℕ) (i o : ℕ) → i < length fs → named_at (set fs i o) i ≡ link_of o
+named_at-set_same [] i o h = absurd (omega arith)
+named_at-set_same (f ∷ fs) zero o h = refl
+named_at-set_same (f ∷ fs) (suc i) o h = named_at-set_same fs i o (omega arith)
 
-pub next_at-set_other : (ls : List WatchLink) (n m : ℕ) (x : WatchLink) → (n ≡ m → ⊥) → next_at (set ls n x) m ≡ next_at ls m
-next_at-set_other [] n m x h = refl
-next_at-set_other (l ∷ ls) zero zero x h = absurd (h refl)
-next_at-set_other (l ∷ ls) zero (suc m) x h = refl
-next_at-set_other (l ∷ ls) (suc n) zero x h = refl
-next_at-set_other (l ∷ ls) (suc n) (suc m) x h = next_at-set_other ls n m x (λ e. h (ap suc e))
+pub named_at-set_other : (fs : List ℕ) (i j o : ℕ) → (i ≡ j → ⊥) → named_at (set fs i o) j ≡ named_at fs j
+named_at-set_other [] i j o h = refl
+named_at-set_other (f ∷ fs) zero zero o h = absurd (h refl)
+named_at-set_other (f ∷ fs) zero (suc j) o h = refl
+named_at-set_other (f ∷ fs) (suc i) zero o h = refl
+named_at-set_other (f ∷ fs) (suc i) (suc j) o h = named_at-set_other fs i j o (λ e. h (ap suc e))
 
-pub next_at-read : (ls : List WatchLink) (n : ℕ) (x : WatchLink) → n < length ls → x ≡ get_or ls n x → next_at ls n ≡ link_of x.next
-next_at-read [] n x h e = absurd (omega arith)
-next_at-read (l ∷ ls) zero x h e = ap (λ (y : WatchLink). link_of y.next) (sym e)
-next_at-read (l ∷ ls) (suc n) x h e = next_at-read ls n x (omega arith) e
+pub named_at-read : (fs : List ℕ) (i o : ℕ) → i < length fs → o ≡ get_or fs i o → named_at fs i ≡ link_of o
+named_at-read [] i o h e = absurd (omega arith)
+named_at-read (f ∷ fs) zero o h e = ap link_of (sym e)
+named_at-read (f ∷ fs) (suc i) o h e = named_at-read fs i o (omega arith) e
 
-pub clause_of-read : (ls : List WatchLink) (n : ℕ) (x : WatchLink) → n < length ls → x ≡ get_or ls n x → clause_of ls n ≡ x.clause
-clause_of-read [] n x h e = absurd (omega arith)
-clause_of-read (l ∷ ls) zero x h e = ap (λ (y : WatchLink). y.clause) (sym e)
-clause_of-read (l ∷ ls) (suc n) x h e = clause_of-read ls n x (omega arith) e
+pub named_at-past : (fs : List ℕ) (i : ℕ) → length fs ≤ i → named_at fs i ≡ None
+named_at-past [] i h = refl
+named_at-past (f ∷ fs) zero h = absurd (omega arith)
+named_at-past (f ∷ fs) (suc i) h = named_at-past fs i (omega arith)
 
--- a link keeps its clause
-pub clause_of-set : (ls : List WatchLink) (n m : ℕ) (x y : WatchLink) → n < length ls → x ≡ get_or ls n x → y.clause ≡ x.clause → clause_of (set ls n y) m ≡ clause_of ls m
-clause_of-set [] n m x y h e same = absurd (omega arith)
-clause_of-set (l ∷ ls) zero zero x y h e same = same ∙ ap (λ (z : WatchLink). z.clause) e
-clause_of-set (l ∷ ls) zero (suc m) x y h e same = refl
-clause_of-set (l ∷ ls) (suc n) zero x y h e same = refl
-clause_of-set (l ∷ ls) (suc n) (suc m) x y h e same = clause_of-set ls n m x y (omega arith) e same
-
-pub first_at-set_same : (fs : List ℕ) (i o : ℕ) → i < length fs → first_at (set fs i o) i ≡ link_of o
-first_at-set_same [] i o h = absurd (omega arith)
-first_at-set_same (f ∷ fs) zero o h = refl
-first_at-set_same (f ∷ fs) (suc i) o h = first_at-set_same fs i o (omega arith)
-
-pub first_at-set_other : (fs : List ℕ) (i j o : ℕ) → (i ≡ j → ⊥) → first_at (set fs i o) j ≡ first_at fs j
-first_at-set_other [] i j o h = refl
-first_at-set_other (f ∷ fs) zero zero o h = absurd (h refl)
-first_at-set_other (f ∷ fs) zero (suc j) o h = refl
-first_at-set_other (f ∷ fs) (suc i) zero o h = refl
-first_at-set_other (f ∷ fs) (suc i) (suc j) o h = first_at-set_other fs i j o (λ e. h (ap suc e))
-
-pub first_at-read : (fs : List ℕ) (i o : ℕ) → i < length fs → o ≡ get_or fs i o → first_at fs i ≡ link_of o
-first_at-read [] i o h e = absurd (omega arith)
-first_at-read (f ∷ fs) zero o h e = ap link_of (sym e)
-first_at-read (f ∷ fs) (suc i) o h e = first_at-read fs i o (omega arith) e
-
-pub first_at-past : (fs : List ℕ) (i : ℕ) → length fs ≤ i → first_at fs i ≡ None
-first_at-past [] i h = refl
-first_at-past (f ∷ fs) zero h = absurd (omega arith)
-first_at-past (f ∷ fs) (suc i) h = first_at-past fs i (omega arith)
-
-pub first_within : (fs : List ℕ) (i n : ℕ) → first_at fs i ≡ Some n → i < length fs
+pub first_within : (fs : List ℕ) (i n : ℕ) → named_at fs i ≡ Some n → i < length fs
 first_within [] i n e = cc
 first_within (f ∷ fs) zero n e = omega arith
 first_within (f ∷ fs) (suc i) n e = let h : i < length fs = first_within fs i n e in omega arith
@@ -228,8 +197,8 @@ put_from lists i n j a m h = go (eqb_tells i j) a h
     })
 
 -- a link that was in no list is the first of one
-pub put_linked : (fs fs' : List ℕ) (ls ls' : List WatchLink) (lists : ℕ → List ℕ) (i n : ℕ) → AreLists fs ls lists → ((j a : ℕ) → slice_get (lists j) a ≡ Some n → ⊥)
-    → n < length ls → length ls' ≡ length ls → first_at fs' i ≡ Some n → ((j : ℕ) → (i ≡ j → ⊥) → first_at fs' j ≡ first_at fs j) → next_at ls' n ≡ first_at fs i → ((m : ℕ) → (n ≡ m → ⊥) → next_at ls' m ≡ next_at ls m)
+pub put_linked : (fs fs' ls ls' : List ℕ) (lists : ℕ → List ℕ) (i n : ℕ) → AreLists fs ls lists → ((j a : ℕ) → slice_get (lists j) a ≡ Some n → ⊥)
+    → n < length ls → length ls' ≡ length ls → named_at fs' i ≡ Some n → ((j : ℕ) → (i ≡ j → ⊥) → named_at fs' j ≡ named_at fs j) → named_at ls' n ≡ named_at fs i → ((m : ℕ) → (n ≡ m → ⊥) → named_at ls' m ≡ named_at ls m)
     → AreLists fs' ls' (put_in i n lists)
 put_linked fs fs' ls ls' lists i n are free within long here there leads keeps = record {
   first = λ j. first j (eqb_tells i j);
@@ -241,16 +210,16 @@ put_linked fs fs' ls ls' lists i n are free within long here there leads keeps =
     other : (j a m : ℕ) → slice_get (lists j) a ≡ Some m → n ≡ m → ⊥
     other j a m h e = free j a (subst (λ (k : ℕ). slice_get (lists j) a ≡ Some k) (sym e) h)
 
-    first : (j : ℕ) → ((eqb i j ≡ true) × (i ≡ j)) ⊎ ((eqb i j ≡ false) × (i ≡ j → ⊥)) → first_at fs' j ≡ slice_get (put_in i n lists j) 0
-    first j (inl e) = subst (λ (k : ℕ). first_at fs' k ≡ slice_get (put_in i n lists k) 0) e.1 (here ∙ ap (λ (xs : List ℕ). slice_get xs 0) (sym (put_here i n lists)))
+    first : (j : ℕ) → ((eqb i j ≡ true) × (i ≡ j)) ⊎ ((eqb i j ≡ false) × (i ≡ j → ⊥)) → named_at fs' j ≡ slice_get (put_in i n lists j) 0
+    first j (inl e) = subst (λ (k : ℕ). named_at fs' k ≡ slice_get (put_in i n lists k) 0) e.1 (here ∙ ap (λ (xs : List ℕ). slice_get xs 0) (sym (put_here i n lists)))
     first j (inr e) = there j e.1 ∙ are.first j ∙ ap (λ (xs : List ℕ). slice_get xs 0) (sym (put_there i j n lists e.0))
 
-    next : (j a m : ℕ) → ((m ≡ n) × (i ≡ j) × (a ≡ 0)) ⊎ WasBehind lists i n j a m → next_at ls' m ≡ slice_get (put_in i n lists j) (suc a)
+    next : (j a m : ℕ) → ((m ≡ n) × (i ≡ j) × (a ≡ 0)) ⊎ WasBehind lists i n j a m → named_at ls' m ≡ slice_get (put_in i n lists j) (suc a)
     next j a m (inl e) =
-        let at_front : next_at ls' n ≡ slice_get (put_in i n lists i) 1 = leads ∙ are.first i ∙ ap (λ (xs : List ℕ). slice_get xs 1) (sym (put_here i n lists)) in
-        subst (λ (k : ℕ). next_at ls' k ≡ slice_get (put_in i n lists j) (suc a)) (sym e.0)
-        (subst (λ (k : ℕ). next_at ls' n ≡ slice_get (put_in i n lists k) (suc a)) e.1
-        (subst (λ (k : ℕ). next_at ls' n ≡ slice_get (put_in i n lists i) (suc k)) (sym e.2) at_front))
+        let at_front : named_at ls' n ≡ slice_get (put_in i n lists i) 1 = leads ∙ are.first i ∙ ap (λ (xs : List ℕ). slice_get xs 1) (sym (put_here i n lists)) in
+        subst (λ (k : ℕ). named_at ls' k ≡ slice_get (put_in i n lists j) (suc a)) (sym e.0)
+        (subst (λ (k : ℕ). named_at ls' n ≡ slice_get (put_in i n lists k) (suc a)) e.1
+        (subst (λ (k : ℕ). named_at ls' n ≡ slice_get (put_in i n lists i) (suc k)) (sym e.2) at_front))
     next j a m (inr w) = keeps m (other j w.place m w.was) ∙ are.next j w.place m w.was ∙ sym w.next
 
     in_range : (j a m : ℕ) → ((m ≡ n) × (i ≡ j) × (a ≡ 0)) ⊎ WasBehind lists i n j a m → m < length ls'
@@ -307,10 +276,10 @@ taken_was lists i p j a = go (eqb i j)
     go false = refl
 
 -- a list without one of its links
-pub taken_linked : (fs fs' : List ℕ) (ls ls' : List WatchLink) (lists : ℕ → List ℕ) (i p : ℕ) → AreLists fs ls lists → length ls' ≡ length ls
-    → first_at fs' i ≡ slice_get (taken p (lists i)) 0 → ((j : ℕ) → (i ≡ j → ⊥) → first_at fs' j ≡ first_at fs j)
-    → ((j a m : ℕ) → slice_get (lists j) a ≡ Some m → (i ≡ j → suc a ≡ p → ⊥) → next_at ls' m ≡ next_at ls m)
-    → ((a m : ℕ) → suc a ≡ p → slice_get (lists i) a ≡ Some m → next_at ls' m ≡ slice_get (lists i) (suc p))
+pub taken_linked : (fs fs' ls ls' : List ℕ) (lists : ℕ → List ℕ) (i p : ℕ) → AreLists fs ls lists → length ls' ≡ length ls
+    → named_at fs' i ≡ slice_get (taken p (lists i)) 0 → ((j : ℕ) → (i ≡ j → ⊥) → named_at fs' j ≡ named_at fs j)
+    → ((j a m : ℕ) → slice_get (lists j) a ≡ Some m → (i ≡ j → suc a ≡ p → ⊥) → named_at ls' m ≡ named_at ls m)
+    → ((a m : ℕ) → suc a ≡ p → slice_get (lists i) a ≡ Some m → named_at ls' m ≡ slice_get (lists i) (suc p))
     → AreLists fs' ls' (taken_in i p lists)
 taken_linked fs fs' ls ls' lists i p are long here there keeps leads = record {
   first = λ j. first j (eqb_tells i j);
@@ -319,14 +288,14 @@ taken_linked fs fs' ls ls' lists i p are long here there keeps leads = record {
   once = λ j k a b m h g. once j k a b (are.once j k (up_in i p j a) (up_in i p k b) m (sym (taken_was lists i p j a) ∙ h) (sym (taken_was lists i p k b) ∙ g));
 }
   where
-    first : (j : ℕ) → ((eqb i j ≡ true) × (i ≡ j)) ⊎ ((eqb i j ≡ false) × (i ≡ j → ⊥)) → first_at fs' j ≡ slice_get (taken_in i p lists j) 0
-    first j (inl e) = subst (λ (k : ℕ). first_at fs' k ≡ slice_get (taken_in i p lists k) 0) e.1 (here ∙ ap (λ (xs : List ℕ). slice_get xs 0) (sym (taken_here i p lists)))
+    first : (j : ℕ) → ((eqb i j ≡ true) × (i ≡ j)) ⊎ ((eqb i j ≡ false) × (i ≡ j → ⊥)) → named_at fs' j ≡ slice_get (taken_in i p lists j) 0
+    first j (inl e) = subst (λ (k : ℕ). named_at fs' k ≡ slice_get (taken_in i p lists k) 0) e.1 (here ∙ ap (λ (xs : List ℕ). slice_get xs 0) (sym (taken_here i p lists)))
     first j (inr e) = there j e.1 ∙ are.first j ∙ ap (λ (xs : List ℕ). slice_get xs 0) (sym (taken_there i j p lists e.0))
 
-    in_list : (a m : ℕ) → slice_get (lists i) (up p a) ≡ Some m → next_at ls' m ≡ slice_get (lists i) (up p (suc a))
+    in_list : (a m : ℕ) → slice_get (lists i) (up p a) ≡ Some m → named_at ls' m ≡ slice_get (lists i) (up p (suc a))
     in_list a m h = go (leb_tells p a) (eqb_tells (suc a) p)
       where
-        go : ((leb p a ≡ true) × (p ≤ a)) ⊎ ((leb p a ≡ false) × (a < p)) → ((eqb (suc a) p ≡ true) × (suc a ≡ p)) ⊎ ((eqb (suc a) p ≡ false) × (suc a ≡ p → ⊥)) → next_at ls' m ≡ slice_get (lists i) (up p (suc a))
+        go : ((leb p a ≡ true) × (p ≤ a)) ⊎ ((leb p a ≡ false) × (a < p)) → ((eqb (suc a) p ≡ true) × (suc a ≡ p)) ⊎ ((eqb (suc a) p ≡ false) × (suc a ≡ p → ⊥)) → named_at ls' m ≡ slice_get (lists i) (up p (suc a))
         go (inl e) k =
             let le = e.1 in
             let was : slice_get (lists i) (suc a) ≡ Some m = ap (λ x. slice_get (lists i) x) (sym (up_behind p a le)) ∙ h in
@@ -345,9 +314,9 @@ taken_linked fs fs' ls ls' lists i p are long here there keeps leads = record {
             ne_lt : (x y : ℕ) → (x ≡ y → ⊥) → x ≤ y → x < y
             ne_lt x y d le = omega arith
 
-    next : (j a m : ℕ) → ((eqb i j ≡ true) × (i ≡ j)) ⊎ ((eqb i j ≡ false) × (i ≡ j → ⊥)) → slice_get (lists j) (up_in i p j a) ≡ Some m → next_at ls' m ≡ slice_get (lists j) (up_in i p j (suc a))
+    next : (j a m : ℕ) → ((eqb i j ≡ true) × (i ≡ j)) ⊎ ((eqb i j ≡ false) × (i ≡ j → ⊥)) → slice_get (lists j) (up_in i p j a) ≡ Some m → named_at ls' m ≡ slice_get (lists j) (up_in i p j (suc a))
     next j a m (inl e) h =
-        subst (λ (k : ℕ). next_at ls' m ≡ slice_get (lists k) (cond (eqb i j) (up p (suc a)) (suc a))) e.1
+        subst (λ (k : ℕ). named_at ls' m ≡ slice_get (lists k) (cond (eqb i j) (up p (suc a)) (suc a))) e.1
         (in_list a m (subst (λ (k : ℕ). slice_get (lists k) (up p a) ≡ Some m) (sym e.1) (ap (λ t. slice_get (lists j) (cond t (up p a) a)) (sym e.0) ∙ h))
         ∙ ap (λ t. slice_get (lists i) (cond t (up p (suc a)) (suc a))) (sym e.0))
     next j a m (inr e) h =
@@ -362,15 +331,15 @@ taken_linked fs fs' ls ls' lists i p are long here there keeps leads = record {
         same x false e = e
 
 -- the first link of a list was taken out
-pub front_taken : (fs fs' : List ℕ) (ls : List WatchLink) (i n : ℕ) → AreLinked fs ls → slice_get (list_in fs ls i) 0 ≡ Some n
-    → first_at fs' i ≡ next_at ls n → ((j : ℕ) → (i ≡ j → ⊥) → first_at fs' j ≡ first_at fs j)
+pub front_taken : (fs fs' ls : List ℕ) (i n : ℕ) → AreLinked fs ls → slice_get (list_in fs ls i) 0 ≡ Some n
+    → named_at fs' i ≡ named_at ls n → ((j : ℕ) → (i ≡ j → ⊥) → named_at fs' j ≡ named_at fs j)
     → AreLists fs' ls (taken_in i 0 (list_in fs ls))
 front_taken fs fs' ls i n are at here there =
     taken_linked fs fs' ls ls (list_in fs ls) i 0 are refl (here ∙ are.next i 0 n at ∙ sym (taken_behind (list_in fs ls i) 0 0 (omega arith))) there (λ j a m h d. refl) (λ a m e h. absurd cc)
 
 -- the link behind another was taken out
-pub behind_taken : (fs : List ℕ) (ls ls' : List WatchLink) (i q n b : ℕ) → AreLinked fs ls → length ls' ≡ length ls → slice_get (list_in fs ls i) (suc q) ≡ Some n → slice_get (list_in fs ls i) q ≡ Some b
-    → next_at ls' b ≡ next_at ls n → ((m : ℕ) → (b ≡ m → ⊥) → next_at ls' m ≡ next_at ls m)
+pub behind_taken : (fs ls ls' : List ℕ) (i q n b : ℕ) → AreLinked fs ls → length ls' ≡ length ls → slice_get (list_in fs ls i) (suc q) ≡ Some n → slice_get (list_in fs ls i) q ≡ Some b
+    → named_at ls' b ≡ named_at ls n → ((m : ℕ) → (b ≡ m → ⊥) → named_at ls' m ≡ named_at ls m)
     → AreLists fs ls' (taken_in i (suc q) (list_in fs ls))
 behind_taken fs ls ls' i q n b are long at before here there =
     taken_linked fs fs ls ls' (list_in fs ls) i (suc q) are long (are.first i ∙ sym (taken_before (list_in fs ls i) (suc q) 0 (omega arith))) (λ j d. refl)
@@ -379,69 +348,58 @@ behind_taken fs ls ls' i q n b are long at before here there =
     let same : a ≡ q = omega arith in
     let both : Some m ≡ Some b = sym h ∙ ap (λ x. slice_get (list_in fs ls i) x) same ∙ before in
     let is : m ≡ b = cc in
-    ap (next_at ls') is ∙ here ∙ are.next i (suc q) n at)
+    ap (named_at ls') is ∙ here ∙ are.next i (suc q) n at)
 
 -- a link that is put first leads to what was first
-pub first_linked : (fs : List ℕ) (ls : List WatchLink) (i n o : ℕ) (x : WatchLink) → AreLinked fs ls → ((j a : ℕ) → slice_get (list_in fs ls j) a ≡ Some n → ⊥) → i < length fs → n < length ls → o ≡ get_or fs i o
-    → AreLists (set fs i (suc n)) (set ls n (record { clause = x.clause; next = o })) (put_in i n (list_in fs ls))
-first_linked fs ls i n o x are free hi hn read =
-    let y : WatchLink = record { clause = x.clause; next = o } in
-    put_linked fs (set fs i (suc n)) ls (set ls n y) (list_in fs ls) i n are free hn (length-set ls n y) (first_at-set_same fs i (suc n) hi) (λ j d. first_at-set_other fs i j (suc n) d)
-    (next_at-set_same ls n y hn ∙ sym (first_at-read fs i o hi read)) (λ m d. next_at-set_other ls n m y d)
+pub first_linked : (fs ls : List ℕ) (i n o : ℕ) → AreLinked fs ls → ((j a : ℕ) → slice_get (list_in fs ls j) a ≡ Some n → ⊥) → i < length fs → n < length ls → o ≡ get_or fs i o
+    → AreLists (set fs i (suc n)) (set ls n o) (put_in i n (list_in fs ls))
+first_linked fs ls i n o are free hi hn read =
+    put_linked fs (set fs i (suc n)) ls (set ls n o) (list_in fs ls) i n are free hn (length-set ls n o) (named_at-set_same fs i (suc n) hi) (λ j d. named_at-set_other fs i j (suc n) d)
+    (named_at-set_same ls n o hn ∙ sym (named_at-read fs i o hi read)) (λ m d. named_at-set_other ls n m o d)
 
 -- the link before one that is taken out leads to what is behind that
-pub out_behind : (fs : List ℕ) (ls : List WatchLink) (i p n b : ℕ) (x y : WatchLink) → AreLinked fs ls → slice_get (list_in fs ls i) p ≡ Some n → before_in (list_in fs ls i) p ≡ Some b → x ≡ get_or ls n x
-    → AreLists fs (set ls b (record { clause = y.clause; next = x.next })) (taken_in i p (list_in fs ls))
-out_behind fs ls i zero n b x y are at before read = cc
-out_behind fs ls i (suc q) n b x y are at before read =
-    let z : WatchLink = record { clause = y.clause; next = x.next } in
-    behind_taken fs ls (set ls b z) i q n b are (length-set ls b z) at before
-    (next_at-set_same ls b z (are.in_range i q b before) ∙ sym (next_at-read ls n x (are.in_range i (suc q) n at) read)) (λ m d. next_at-set_other ls b m z d)
+pub out_behind : (fs ls : List ℕ) (i p n b o : ℕ) → AreLinked fs ls → slice_get (list_in fs ls i) p ≡ Some n → before_in (list_in fs ls i) p ≡ Some b → o ≡ get_or ls n o
+    → AreLists fs (set ls b o) (taken_in i p (list_in fs ls))
+out_behind fs ls i zero n b o are at before read = cc
+out_behind fs ls i (suc q) n b o are at before read =
+    behind_taken fs ls (set ls b o) i q n b are (length-set ls b o) at before
+    (named_at-set_same ls b o (are.in_range i q b before) ∙ sym (named_at-read ls n o (are.in_range i (suc q) n at) read)) (λ m d. named_at-set_other ls b m o d)
 
 -- what is behind the first link that is taken out is first then
-pub out_front : (fs : List ℕ) (ls : List WatchLink) (i p n : ℕ) (x : WatchLink) → AreLinked fs ls → slice_get (list_in fs ls i) p ≡ Some n → before_in (list_in fs ls i) p ≡ None → x ≡ get_or ls n x
-    → AreLists (set fs i x.next) ls (taken_in i p (list_in fs ls))
-out_front fs ls i zero n x are at before read =
-    front_taken fs (set fs i x.next) ls i n are at (first_at-set_same fs i x.next (first_within fs i n (are.first i ∙ at)) ∙ sym (next_at-read ls n x (are.in_range i 0 n at) read)) (λ j d. first_at-set_other fs i j x.next d)
-out_front fs ls i (suc q) n x are at before read =
+pub out_front : (fs ls : List ℕ) (i p n o : ℕ) → AreLinked fs ls → slice_get (list_in fs ls i) p ≡ Some n → before_in (list_in fs ls i) p ≡ None → o ≡ get_or ls n o
+    → AreLists (set fs i o) ls (taken_in i p (list_in fs ls))
+out_front fs ls i zero n o are at before read =
+    front_taken fs (set fs i o) ls i n are at (named_at-set_same fs i o (first_within fs i n (are.first i ∙ at)) ∙ sym (named_at-read ls n o (are.in_range i 0 n at) read)) (λ j d. named_at-set_other fs i j o d)
+out_front fs ls i (suc q) n o are at before read =
     let h : suc q < length (list_in fs ls i) = got_within (list_in fs ls i) (suc q) n at in
     let g = got (list_in fs ls i) q (omega arith) in
     let both : Some g.0 ≡ None = sym g.1 ∙ before in
     absurd cc
 
 -- there are more lists, which are empty
-pub more_linked : (fs fs' : List ℕ) (ls : List WatchLink) → AreLinked fs ls → ((i : ℕ) → first_at fs' i ≡ first_at fs i) → AreLinked fs' ls
+pub more_linked : (fs fs' ls : List ℕ) → AreLinked fs ls → ((i : ℕ) → named_at fs' i ≡ named_at fs i) → AreLinked fs' ls
 more_linked fs fs' ls are same = linked fs' ls (list_in fs ls) (record { first = λ i. same i ∙ are.first i; next = are.next; in_range = are.in_range; once = are.once })
 
-pub first_at-push : (fs : List ℕ) (i : ℕ) → first_at (fs ++ 0 ∷ []) i ≡ first_at fs i
-first_at-push [] zero = refl
-first_at-push [] (suc i) = refl
-first_at-push (f ∷ fs) zero = refl
-first_at-push (f ∷ fs) (suc i) = first_at-push fs i
+pub named_at-push : (fs : List ℕ) (i : ℕ) → named_at (fs ++ 0 ∷ []) i ≡ named_at fs i
+named_at-push [] zero = refl
+named_at-push [] (suc i) = refl
+named_at-push (f ∷ fs) zero = refl
+named_at-push (f ∷ fs) (suc i) = named_at-push fs i
 
-pub next_at-push : (ls : List WatchLink) (x : WatchLink) (n : ℕ) → n < length ls → next_at (ls ++ x ∷ []) n ≡ next_at ls n
-next_at-push [] x n h = absurd (omega arith)
-next_at-push (l ∷ ls) x zero h = refl
-next_at-push (l ∷ ls) x (suc n) h = next_at-push ls x n (omega arith)
+pub named_at-more : (ls : List ℕ) (o n : ℕ) → n < length ls → named_at (ls ++ o ∷ []) n ≡ named_at ls n
+named_at-more [] o n h = absurd (omega arith)
+named_at-more (l ∷ ls) o zero h = refl
+named_at-more (l ∷ ls) o (suc n) h = named_at-more ls o n (omega arith)
 
-pub clause_of-push : (ls : List WatchLink) (x : WatchLink) (n : ℕ) → n < length ls → clause_of (ls ++ x ∷ []) n ≡ clause_of ls n
-clause_of-push [] x n h = absurd (omega arith)
-clause_of-push (l ∷ ls) x zero h = refl
-clause_of-push (l ∷ ls) x (suc n) h = clause_of-push ls x n (omega arith)
-
-pub clause_of-end : (ls : List WatchLink) (x : WatchLink) → clause_of (ls ++ x ∷ []) (length ls) ≡ x.clause
-clause_of-end [] x = refl
-clause_of-end (l ∷ ls) x = clause_of-end ls x
-
--- a link that was added is in no list
-pub added_lists : (fs : List ℕ) (ls : List WatchLink) (x : WatchLink) → AreLinked fs ls → AreLists fs (ls ++ x ∷ []) (list_in fs ls)
-added_lists fs ls x are = record {
+-- links that were added are in no list
+pub added_lists : (fs ls ls' : List ℕ) → AreLinked fs ls → ((n : ℕ) → n < length ls → named_at ls' n ≡ named_at ls n) → length ls ≤ length ls' → AreLists fs ls' (list_in fs ls)
+added_lists fs ls ls' are same longer = record {
   first = are.first;
-  next = λ i a n h. next_at-push ls x n (are.in_range i a n h) ∙ are.next i a n h;
-  in_range = λ i a n h. let k : n < length ls = are.in_range i a n h in let e : length (ls ++ x ∷ []) ≡ length ls + 1 = length-append ls (x ∷ []) in omega arith;
+  next = λ i a n h. same n (are.in_range i a n h) ∙ are.next i a n h;
+  in_range = λ i a n h. let k : n < length ls = are.in_range i a n h in omega arith;
   once = are.once;
 }
 
 -- a link that is set is no further one
-pub few_set : (ls : List WatchLink) (n : ℕ) (x : WatchLink) → length ls ≤ 4294967295 → length (set ls n x) ≤ 4294967295
-few_set ls n x few = let e : length (set ls n x) ≡ length ls = length-set ls n x in omega arith
+pub few_set : (ls : List ℕ) (n o : ℕ) → length ls ≤ 4294967294 → length (set ls n o) ≤ 4294967294
+few_set ls n o few = let e : length (set ls n o) ≡ length ls = length-set ls n o in omega arith

@@ -1,5 +1,5 @@
 -- Lemmas on the lists that the calls of a watch map write, as functions of a literal.
-use Rattle.std.proofs.Common.{◌≡◌, ℕ, zero, suc, ◌+◌, ◌<◌, ◌≤◌, inl, inr, true, false, cond, List, [], ◌∷◌, ◌++◌, take, drop, map, length, Option, Some, None, refl, sym, ◌∙◌, ap, subst, arith, eqb, eq-eqb, ne_eqb, length-append}
+use Rattle.std.proofs.Common.{◌≡◌, ℕ, zero, suc, ◌+◌, ◌<◌, ◌≤◌, inl, inr, true, false, cond, List, [], ◌∷◌, ◌++◌, take, drop, map, length, get_or, Option, Some, None, refl, sym, ◌∙◌, ap, subst, arith, eqb, eq-eqb, ne_eqb}
 use Rattle.std.specs.Prelude.{slice_get, slice_set}
 use Rattle.std.proofs.lemmas.List.{length-map}
 use Rattle.resolvo_pool_core.specs.declared.id.ClauseId.{ClauseId}
@@ -8,15 +8,10 @@ use Rattle.resolvo_store_core.specs.Pairs.{watches, moved_pair}
 use Rattle.resolvo_store_core.specs.declared.watched_literals.WatchedLiterals.{WatchedLiterals}
 use Rattle.resolvo_store_core.specs.declared.watch_map.WatchMap.{WatchMap}
 use Rattle.resolvo_store_core.specs.declared.watch_map.WatchMapCursor.{WatchMapCursor}
-use Rattle.resolvo_store_core.specs.declared.watch_map.WatchLink.{WatchLink}
-use Rattle.resolvo_store_core.specs.Links.{first_at, next_at, clause_of, chain, list_in, before_in, watchers_in, AreLists, IsPlaced, IsUnlinked, KeepsLinks}
+use Rattle.resolvo_store_core.specs.Links.{link_of, named_at, clause_of, chain, list_in, before_in, watchers_in, AreLists, IsPlaced, IsUnlinked, KeepsLinks}
 use Rattle.resolvo_store_core.specs.Watches.{links, watchers, pair_at, IsFreeLink, IsAt, IsWatched, StartsIn, MovesIn, Moves, PutsFirst, TakesOut, SameLists}
-use Rattle.resolvo_store_core.proofs.LinkLemmas.{got, got_within, chain_length, added_lists, clause_of-push, taken, up, up_in, not_up, put_in, put_from, taken_in, put_here, put_there, taken_here, taken_there, taken_was, taken_before, taken_behind, lists_are}
+use Rattle.resolvo_store_core.proofs.LinkLemmas.{got, got_within, chain_length, added_lists, named_at-read, taken, up, up_in, not_up, put_in, put_from, taken_in, put_here, put_there, taken_here, taken_there, taken_was, taken_before, taken_behind, lists_are}
 use Rattle.resolvo_store_core.proofs.Watched.{differs_sym, both_false, index_differs, moved_well, pair_of_watcher, not_same_watch}
-
-map_kept : {A : Type 0} (f g : ℕ → A) (xs : List ℕ) → ((a n : ℕ) → slice_get xs a ≡ Some n → f n ≡ g n) → map f xs ≡ map g xs
-map_kept f g [] h = refl
-map_kept f g (x ∷ xs) h = ap (λ y. y ∷ map f xs) (h 0 x refl) ∙ ap (λ ys. g x ∷ ys) (map_kept f g xs (λ a n e. h (suc a) n e))
 
 map_taken : {A : Type 0} (f : ℕ → A) (p : ℕ) (xs : List ℕ) → map f (taken p xs) ≡ take p (map f xs) ++ drop (suc p) (map f xs)
 map_taken f zero [] = refl
@@ -35,94 +30,89 @@ map_none f (x ∷ xs) zero e = cc
 map_none f (x ∷ xs) (suc a) e = map_none f xs a e
 
 -- where all links are in the lists as before, so are the clauses
-pub same_watchers : (old : WatchMap) (fs' : List ℕ) (ls' : List WatchLink) → KeepsLinks old.firsts.items old.links.items fs' ls' → SameLists (watchers old) (watchers_in fs' ls')
-same_watchers old fs' ls' same l =
-    ap (map (clause_of ls')) (same.lists (index_in l))
-    ∙ map_kept (clause_of ls') (clause_of old.links.items) (links old l) (λ a n e. same.clauses n (old.linked.in_range (index_in l) a n e))
+pub same_watchers : (old : WatchMap) (fs' ls' : List ℕ) → KeepsLinks old.firsts.items old.nexts.items fs' ls' → SameLists (watchers old) (watchers_in fs' ls')
+same_watchers old fs' ls' same l = ap (map clause_of) (same.lists (index_in l))
 
 other_index : (l m : Signed) → same_literal l m ≡ false → eqb (index_in l) (index_in m) ≡ false
 other_index l m d = ne_eqb (index_in l) (index_in m) (index_differs l m d)
 
--- a link that was added is in no list
-pub same_added : (old : WatchMap) (fs' : List ℕ) (ls' : List WatchLink) (x : WatchLink) → fs' ≡ old.firsts.items → ls' ≡ old.links.items ++ x ∷ [] → KeepsLinks old.firsts.items old.links.items fs' ls'
-same_added old fs' ls' x firsts more =
-    let longer : length (old.links.items ++ x ∷ []) ≡ length old.links.items + 1 = length-append old.links.items (x ∷ []) in
-    let long : length ls' ≡ length (old.links.items ++ x ∷ []) = ap length more in
-    record {
-      lists = λ i. ap (λ (fs : List ℕ). list_in fs ls' i) firsts ∙ ap (λ (ls : List WatchLink). list_in old.firsts.items ls i) more ∙ lists_are old.firsts.items (old.links.items ++ x ∷ []) _ (added_lists old.firsts.items old.links.items x old.linked) i;
-      clauses = λ n h. ap (λ (ls : List WatchLink). clause_of ls n) more ∙ clause_of-push old.links.items x n h;
-      more = omega arith;
-    }
+-- links that were added are in no list
+pub same_added : (old : WatchMap) (fs' ls ls' : List ℕ) → fs' ≡ old.firsts.items → ls' ≡ ls → ((n : ℕ) → n < length old.nexts.items → named_at ls n ≡ named_at old.nexts.items n) → length old.nexts.items ≤ length ls → SameLists (watchers old) (watchers_in fs' ls')
+same_added old fs' ls ls' firsts is same longer l = ap (map clause_of) (ap (λ (xs : List ℕ). list_in xs ls' (index_in l)) firsts ∙ ap (λ (xs : List ℕ). list_in old.firsts.items xs (index_in l)) is ∙ lists_are old.firsts.items ls _ (added_lists old.firsts.items old.nexts.items ls old.linked same longer) (index_in l))
 
-pub added_free : (old : WatchMap) (fs' : List ℕ) (ls' : List WatchLink) (x : WatchLink) (n : ℕ) → KeepsLinks old.firsts.items old.links.items fs' ls' → ls' ≡ old.links.items ++ x ∷ [] → n ≡ length old.links.items → IsUnlinked fs' ls' n
-added_free old fs' ls' x n same more at =
-    let longer : length (old.links.items ++ x ∷ []) ≡ length old.links.items + 1 = length-append old.links.items (x ∷ []) in
-    let long : length ls' ≡ length (old.links.items ++ x ∷ []) = ap length more in
-    record {
-      in_range = omega arith;
-      free = λ i a h. let k : n < length old.links.items = old.linked.in_range i a n (ap (λ (xs : List ℕ). slice_get xs a) (sym (same.lists i)) ∙ h) in omega arith;
-    }
+-- a link that is marked as in no list is in none
+pub marked_free : (m : WatchMap) (n x : ℕ) → n < length m.nexts.items → x ≡ get_or m.nexts.items n x → x ≡ 4294967295 → IsFreeLink m n
+marked_free m n x within read is = record { in_range = within; free = free }
+  where
+    names : named_at m.nexts.items n ≡ Some 4294967294
+    names = named_at-read m.nexts.items n x within read ∙ ap link_of is
+
+    free : (i a : ℕ) → slice_get (list_in m.firsts.items m.nexts.items i) a ≡ Some n → ⊥
+    free i a at =
+        let next : slice_get (list_in m.firsts.items m.nexts.items i) (suc a) ≡ Some 4294967294 = sym (m.linked.next i a n at) ∙ names in
+        let low : 4294967294 < length m.nexts.items = m.linked.in_range i (suc a) 4294967294 next in
+        let few : length m.nexts.items ≤ 4294967294 = m.few in
+        omega arith
 
 -- a free link stays free where all links are in the lists as before
-pub still_free : (old : WatchMap) (fs' : List ℕ) (ls' : List WatchLink) (n : ℕ) → KeepsLinks old.firsts.items old.links.items fs' ls' → IsFreeLink old n → IsUnlinked fs' ls' n
+pub still_free : (old : WatchMap) (fs' ls' : List ℕ) (n : ℕ) → KeepsLinks old.firsts.items old.nexts.items fs' ls' → IsFreeLink old n → IsUnlinked fs' ls' n
 still_free old fs' ls' n same is = record {
-  in_range = let low : n < length old.links.items = is.in_range in let more : length old.links.items ≤ length ls' = same.more in omega arith;
+  in_range = let low : n < length old.nexts.items = is.in_range in let more : length old.nexts.items ≤ length ls' = same.more in omega arith;
   free = λ i a h. is.free i a (ap (λ (xs : List ℕ). slice_get xs a) (sym (same.lists i)) ∙ h);
 }
 
 -- so does one behind the link that is put first
-pub put_free : (old : WatchMap) (fs' : List ℕ) (ls' : List WatchLink) (i n m : ℕ) → AreLists fs' ls' (put_in i n (list_in old.firsts.items old.links.items)) → length ls' ≡ length old.links.items → n < m → IsFreeLink old m → IsUnlinked fs' ls' m
+pub put_free : (old : WatchMap) (fs' ls' : List ℕ) (i n m : ℕ) → AreLists fs' ls' (put_in i n (list_in old.firsts.items old.nexts.items)) → length ls' ≡ length old.nexts.items → n < m → IsFreeLink old m → IsUnlinked fs' ls' m
 put_free old fs' ls' i n m are long apart is = record {
-  in_range = let low : m < length old.links.items = is.in_range in omega arith;
-  free = λ j a h. elim (put_from (list_in old.firsts.items old.links.items) i n j a m (ap (λ (xs : List ℕ). slice_get xs a) (sym (lists_are fs' ls' _ are j)) ∙ h)) [
+  in_range = let low : m < length old.nexts.items = is.in_range in omega arith;
+  free = λ j a h. elim (put_from (list_in old.firsts.items old.nexts.items) i n j a m (ap (λ (xs : List ℕ). slice_get xs a) (sym (lists_are fs' ls' _ are j)) ∙ h)) [
     | inl e ↦ let same : m ≡ n = e.0 in absurd (omega arith)
     | inr w ↦ is.free j w.place w.was
   ];
 }
 
 -- there are more lists, which are empty
-pub same_more : (old : WatchMap) (fs' : List ℕ) (ls' : List WatchLink) → ((i : ℕ) → first_at fs' i ≡ first_at old.firsts.items i) → ls' ≡ old.links.items → KeepsLinks old.firsts.items old.links.items fs' ls'
+pub same_more : (old : WatchMap) (fs' ls' : List ℕ) → ((i : ℕ) → named_at fs' i ≡ named_at old.firsts.items i) → ls' ≡ old.nexts.items → KeepsLinks old.firsts.items old.nexts.items fs' ls'
 same_more old fs' ls' firsts links = record {
-  lists = λ i. ap (λ (ls : List WatchLink). list_in fs' ls i) links ∙ ap (chain old.links.items (length old.links.items)) (firsts i);
-  clauses = λ n h. ap (λ (ls : List WatchLink). clause_of ls n) links;
+  lists = λ i. ap (λ (ls : List ℕ). list_in fs' ls i) links ∙ ap (chain old.nexts.items (length old.nexts.items)) (firsts i);
   more = let e = ap length links in omega arith;
 }
 
 -- a cursor in a list is not at its end
 pub not_at_end : (m : WatchMap) (k : WatchMapCursor) → IsAt m k → k.place < length (watchers m k.literal) → k.current ≡ None → ⊥
 not_at_end m k at within end =
-    let size : length (watchers m k.literal) ≡ length (links m k.literal) = length-map (links m k.literal) (clause_of m.links.items) in
+    let size : length (watchers m k.literal) ≡ length (links m k.literal) = length-map (links m k.literal) clause_of in
     let g = got (links m k.literal) k.place (omega arith) in
     let both : Some g.0 ≡ None = sym g.1 ∙ sym at.current ∙ end in
     cc
 
 -- places of lists are fewer than the links
-pub place_small : (m : WatchMap) (l : Signed) (place : ℕ) → place < length (watchers m l) → place < length m.links.items
+pub place_small : (m : WatchMap) (l : Signed) (place : ℕ) → place < length (watchers m l) → place < length m.nexts.items
 place_small m l place within =
-    let size : length (watchers m l) ≡ length (links m l) = length-map (links m l) (clause_of m.links.items) in
-    let few : length (links m l) ≤ length m.links.items = chain_length m.links.items (length m.links.items) (first_at m.firsts.items (index_in l)) in
+    let size : length (watchers m l) ≡ length (links m l) = length-map (links m l) clause_of in
+    let few : length (links m l) ≤ length m.nexts.items = chain_length m.nexts.items (length m.nexts.items) (named_at m.firsts.items (index_in l)) in
     omega arith
 
 -- the link before a cursor is there
-pub before_in_range : (m : WatchMap) (k : WatchMapCursor) (b : ℕ) → IsAt m k → k.before ≡ Some b → b < length m.links.items
+pub before_in_range : (m : WatchMap) (k : WatchMapCursor) (b : ℕ) → IsAt m k → k.before ≡ Some b → b < length m.nexts.items
 before_in_range m k b at is = go k.place (sym at.before ∙ is)
   where
-    go : (p : ℕ) → before_in (links m k.literal) p ≡ Some b → b < length m.links.items
+    go : (p : ℕ) → before_in (links m k.literal) p ≡ Some b → b < length m.nexts.items
     go zero e = cc
     go (suc q) e = m.linked.in_range (index_in k.literal) q b e
 
 -- the clause at a cursor
-pub clause_here : (m : WatchMap) (k : WatchMapCursor) (n : ℕ) → IsAt m k → k.current ≡ Some n → slice_get (watchers m k.literal) k.place ≡ Some (clause_of m.links.items n)
-clause_here m k n at is = map_got (clause_of m.links.items) (links m k.literal) k.place n (sym at.current ∙ is)
+pub clause_here : (m : WatchMap) (k : WatchMapCursor) (n : ℕ) → IsAt m k → k.current ≡ Some n → slice_get (watchers m k.literal) k.place ≡ Some (clause_of n)
+clause_here m k n at is = map_got clause_of (links m k.literal) k.place n (sym at.current ∙ is)
 
 pub within_from : (m : WatchMap) (k : WatchMapCursor) (n : ℕ) → IsAt m k → k.current ≡ Some n → k.place < length (watchers m k.literal)
 within_from m k n at is =
-    let size : length (watchers m k.literal) ≡ length (links m k.literal) = length-map (links m k.literal) (clause_of m.links.items) in
+    let size : length (watchers m k.literal) ≡ length (links m k.literal) = length-map (links m k.literal) clause_of in
     let h : k.place < length (links m k.literal) = got_within (links m k.literal) k.place n (sym at.current ∙ is) in
     omega arith
 
 -- the cursor behind one
-pub next_at_cursor : (m : WatchMap) (k : WatchMapCursor) (n : ℕ) (o : Option ℕ) → IsAt m k → k.current ≡ Some n → o ≡ next_at m.links.items n → IsPlaced (links m k.literal) (k.place + 1) o (Some n)
+pub next_at_cursor : (m : WatchMap) (k : WatchMapCursor) (n : ℕ) (o : Option ℕ) → IsAt m k → k.current ≡ Some n → o ≡ named_at m.nexts.items n → IsPlaced (links m k.literal) (k.place + 1) o (Some n)
 next_at_cursor m k n o at is next =
     let here : slice_get (links m k.literal) k.place ≡ Some n = sym at.current ∙ is in
     let step : suc k.place ≡ k.place + 1 = omega arith in
@@ -132,45 +122,42 @@ next_at_cursor m k n o at is next =
     }
 
 -- the lists after a link was put first, and their clauses
-pub put_others : (old : WatchMap) (fs' : List ℕ) (ls' : List WatchLink) (l : Signed) (i n : ℕ) → i ≡ index_in l → AreLists fs' ls' (put_in i n (list_in old.firsts.items old.links.items)) → (m : Signed) → same_literal l m ≡ false → list_in fs' ls' (index_in m) ≡ links old m
+pub put_others : (old : WatchMap) (fs' ls' : List ℕ) (l : Signed) (i n : ℕ) → i ≡ index_in l → AreLists fs' ls' (put_in i n (list_in old.firsts.items old.nexts.items)) → (m : Signed) → same_literal l m ≡ false → list_in fs' ls' (index_in m) ≡ links old m
 put_others old fs' ls' l i n at are m d =
-    lists_are fs' ls' _ are (index_in m) ∙ put_there i (index_in m) n (list_in old.firsts.items old.links.items) (ap (λ (k : ℕ). eqb k (index_in m)) at ∙ other_index l m d)
+    lists_are fs' ls' _ are (index_in m) ∙ put_there i (index_in m) n (list_in old.firsts.items old.nexts.items) (ap (λ (k : ℕ). eqb k (index_in m)) at ∙ other_index l m d)
 
-pub put_watchers : (old : WatchMap) (fs' : List ℕ) (ls' : List WatchLink) (l : Signed) (i n : ℕ) → i ≡ index_in l → AreLists fs' ls' (put_in i n (list_in old.firsts.items old.links.items)) → ((m : ℕ) → clause_of ls' m ≡ clause_of old.links.items m)
-    → PutsFirst (clause_of old.links.items n) l (watchers old) (watchers_in fs' ls')
-put_watchers old fs' ls' l i n at are same = record {
-  put = map_kept (clause_of ls') (clause_of old.links.items) (list_in fs' ls' (index_in l)) (λ a m e. same m)
-      ∙ ap (map (clause_of old.links.items)) (subst (λ (k : ℕ). list_in fs' ls' (index_in l) ≡ n ∷ list_in old.firsts.items old.links.items k) at (ap (list_in fs' ls') (sym at) ∙ lists_are fs' ls' _ are i ∙ put_here i n (list_in old.firsts.items old.links.items)));
-  others = λ m d. map_kept (clause_of ls') (clause_of old.links.items) (list_in fs' ls' (index_in m)) (λ a k e. same k) ∙ ap (map (clause_of old.links.items)) (put_others old fs' ls' l i n at are m d);
+pub put_watchers : (old : WatchMap) (fs' ls' : List ℕ) (l : Signed) (i n : ℕ) → i ≡ index_in l → AreLists fs' ls' (put_in i n (list_in old.firsts.items old.nexts.items))
+    → PutsFirst (clause_of n) l (watchers old) (watchers_in fs' ls')
+put_watchers old fs' ls' l i n at are = record {
+  put = ap (map clause_of) (subst (λ (k : ℕ). list_in fs' ls' (index_in l) ≡ n ∷ list_in old.firsts.items old.nexts.items k) at (ap (list_in fs' ls') (sym at) ∙ lists_are fs' ls' _ are i ∙ put_here i n (list_in old.firsts.items old.nexts.items)));
+  others = λ m d. ap (map clause_of) (put_others old fs' ls' l i n at are m d);
 }
 
 -- the lists after a link was taken out, and their clauses
-pub taken_watchers : (old : WatchMap) (fs' : List ℕ) (ls' : List WatchLink) (l : Signed) (p : ℕ) → AreLists fs' ls' (taken_in (index_in l) p (list_in old.firsts.items old.links.items)) → ((m : ℕ) → clause_of ls' m ≡ clause_of old.links.items m)
+pub taken_watchers : (old : WatchMap) (fs' ls' : List ℕ) (l : Signed) (p : ℕ) → AreLists fs' ls' (taken_in (index_in l) p (list_in old.firsts.items old.nexts.items))
     → TakesOut l p (watchers old) (watchers_in fs' ls')
-taken_watchers old fs' ls' l p are same = record {
-  taken = map_kept (clause_of ls') (clause_of old.links.items) (list_in fs' ls' (index_in l)) (λ a m e. same m)
-      ∙ ap (map (clause_of old.links.items)) (lists_are fs' ls' _ are (index_in l) ∙ taken_here (index_in l) p (list_in old.firsts.items old.links.items))
-      ∙ map_taken (clause_of old.links.items) p (links old l);
-  others = λ m d. map_kept (clause_of ls') (clause_of old.links.items) (list_in fs' ls' (index_in m)) (λ a k e. same k)
-      ∙ ap (map (clause_of old.links.items)) (lists_are fs' ls' _ are (index_in m) ∙ taken_there (index_in l) (index_in m) p (list_in old.firsts.items old.links.items) (other_index l m d));
+taken_watchers old fs' ls' l p are = record {
+  taken = ap (map clause_of) (lists_are fs' ls' _ are (index_in l) ∙ taken_here (index_in l) p (list_in old.firsts.items old.nexts.items))
+      ∙ map_taken clause_of p (links old l);
+  others = λ m d. ap (map clause_of) (lists_are fs' ls' _ are (index_in m) ∙ taken_there (index_in l) (index_in m) p (list_in old.firsts.items old.nexts.items) (other_index l m d));
 }
 
 -- the link that was taken out is in no list
-pub taken_free : (old : WatchMap) (fs' : List ℕ) (ls' : List WatchLink) (l : Signed) (p n : ℕ) → AreLists fs' ls' (taken_in (index_in l) p (list_in old.firsts.items old.links.items)) → slice_get (links old l) p ≡ Some n → length ls' ≡ length old.links.items → IsUnlinked fs' ls' n
+pub taken_free : (old : WatchMap) (fs' ls' : List ℕ) (l : Signed) (p n : ℕ) → AreLists fs' ls' (taken_in (index_in l) p (list_in old.firsts.items old.nexts.items)) → slice_get (links old l) p ≡ Some n → length ls' ≡ length old.nexts.items → IsUnlinked fs' ls' n
 taken_free old fs' ls' l p n are at long = record {
-  in_range = let h : n < length old.links.items = old.linked.in_range (index_in l) p n at in omega arith;
+  in_range = let h : n < length old.nexts.items = old.linked.in_range (index_in l) p n at in omega arith;
   free = λ j a h.
-      let was = sym (taken_was (list_in old.firsts.items old.links.items) (index_in l) p j a) ∙ ap (λ (xs : List ℕ). slice_get xs a) (sym (lists_are fs' ls' _ are j)) ∙ h in
+      let was = sym (taken_was (list_in old.firsts.items old.nexts.items) (index_in l) p j a) ∙ ap (λ (xs : List ℕ). slice_get xs a) (sym (lists_are fs' ls' _ are j)) ∙ h in
       let one = old.linked.once (index_in l) j p (up_in (index_in l) p j a) n at was in
       let here : up_in (index_in l) p j a ≡ up p a = ap (λ t. cond t (up p a) a) (eq-eqb (index_in l) j one.0) in
       not_up p a (one.1 ∙ here);
 }
 
 -- a cursor whose link was taken out is at the next one
-pub taken_at : (old : WatchMap) (fs' : List ℕ) (ls' : List WatchLink) (k : WatchMapCursor) (n : ℕ) (o : Option ℕ) → AreLists fs' ls' (taken_in (index_in k.literal) k.place (list_in old.firsts.items old.links.items)) → IsAt old k → k.current ≡ Some n → o ≡ next_at old.links.items n → IsPlaced (list_in fs' ls' (index_in k.literal)) k.place o k.before
+pub taken_at : (old : WatchMap) (fs' ls' : List ℕ) (k : WatchMapCursor) (n : ℕ) (o : Option ℕ) → AreLists fs' ls' (taken_in (index_in k.literal) k.place (list_in old.firsts.items old.nexts.items)) → IsAt old k → k.current ≡ Some n → o ≡ named_at old.nexts.items n → IsPlaced (list_in fs' ls' (index_in k.literal)) k.place o k.before
 taken_at old fs' ls' k n o are at is next =
     let i = index_in k.literal in
-    let lists = list_in old.firsts.items old.links.items in
+    let lists = list_in old.firsts.items old.nexts.items in
     let here : list_in fs' ls' (index_in k.literal) ≡ taken k.place (lists i) = lists_are fs' ls' _ are i ∙ taken_here i k.place lists in
     record {
       current = next ∙ old.linked.next i k.place n (sym at.current ∙ is) ∙ sym (taken_behind (lists i) k.place k.place (omega arith)) ∙ ap (λ (xs : List ℕ). slice_get xs k.place) (sym here);
@@ -202,7 +189,7 @@ moved_between c from to place a b d apart was_in out put = record {
 }
 
 -- where the lists are the same, the link is at its place still
-pub still_at : (old : WatchMap) (fs' : List ℕ) (ls' : List WatchLink) (k : WatchMapCursor) → KeepsLinks old.firsts.items old.links.items fs' ls' → IsAt old k → IsPlaced (list_in fs' ls' (index_in k.literal)) k.place k.current k.before
+pub still_at : (old : WatchMap) (fs' ls' : List ℕ) (k : WatchMapCursor) → KeepsLinks old.firsts.items old.nexts.items fs' ls' → IsAt old k → IsPlaced (list_in fs' ls' (index_in k.literal)) k.place k.current k.before
 still_at old fs' ls' k same at = subst (λ (xs : List ℕ). IsPlaced xs k.place k.current k.before) (sym (same.lists (index_in k.literal))) at
 
 pub out_same : (l : Signed) (p : ℕ) (a a' b : Signed → List ClauseId) → SameLists a a' → TakesOut l p a' b → TakesOut l p a b

@@ -11,11 +11,11 @@ use Rattle.resolvo_store_core.specs.Links.{list_in, watchers_in, IsPlaced, IsUnl
 
 -- the numbers of the links in the literal's list, the latest first
 abbrev pub links : WatchMap → Signed → List ℕ
-links m l = list_in m.firsts.items m.links.items (index_in l)
+links m l = list_in m.firsts.items m.nexts.items (index_in l)
 
 -- the clauses that watch the literal, the latest first
 abbrev pub watchers : WatchMap → Signed → List ClauseId
-watchers m = watchers_in m.firsts.items m.links.items
+watchers m = watchers_in m.firsts.items m.nexts.items
 
 -- clauses can move to the literal without a refusal
 abbrev pub HasPlace : WatchMap → Signed → Type 0
@@ -33,11 +33,11 @@ watched_count m = count_by (λ n. not (n == 0)) m.firsts.items
 
 -- the link is there, and in no list
 abbrev pub IsFreeLink : WatchMap → ℕ → Type 0
-IsFreeLink m n = IsUnlinked m.firsts.items m.links.items n
+IsFreeLink m n = IsUnlinked m.firsts.items m.nexts.items n
 
--- all links are in the lists as before, and no clause of one has changed
+-- all links are in the lists as before
 abbrev pub SameLinks : WatchMap → WatchMap → Type 0
-SameLinks old new = KeepsLinks old.firsts.items old.links.items new.firsts.items new.links.items
+SameLinks old new = KeepsLinks old.firsts.items old.nexts.items new.firsts.items new.nexts.items
 
 -- the cursor has the link at its place of the map's list, and the one before it
 abbrev pub IsAt : WatchMap → WatchMapCursor → Type 0

@@ -1,12 +1,14 @@
 //! For each literal the clauses that watch it, in a linked list, and walks over them.
-//! The map keeps the first link of each literal's list. Each link has a clause and the next link,
-//! so a clause is inserted at the front, or removed at a cursor, in constant time.
+//! The map keeps the first link of each literal's list, and the link after each one. So a clause is
+//! inserted at the front, or removed at a cursor, in constant time. A clause has two links, whose
+//! numbers are twice its own and one more, so no link keeps its clause. The links of a clause that
+//! watches nothing are marked as in no list.
 //! The watched literals of each clause are kept beside the clauses, in a list that the calls take.
 //! The map and that list agree (`IsWatched`): each clause is once in the list of each of its two
 //! literals, and in no other. A clause that begins to watch a literal is put at the front of its
 //! list. A walk is a cursor that the caller advances.
 ghost use Rattle.std.specs.Prelude.{◌≡◌, ◌≤◌, ℕ, length};
-ghost use Rattle.resolvo_store_core.specs.Links.{AreLinked, link_of};
+ghost use Rattle.resolvo_store_core.specs.Links.{AreLinked, link_of, clause_of};
 
 use crate::literal::Literal;
 use crate::watched_literals::{Watch, WatchedLiterals};
@@ -14,23 +16,20 @@ use resolvo_pool_core::id::{ClauseId, DenseIndex};
 use resolvo_pool_core::want::{R, Want};
 use std::alloc::Global;
 
-/// A clause in the list of a literal, and the number of the link after it. Links are numbered from 1
-/// on, and 0 is the number of none.
-#[derive(Clone, Copy, Debug)]
-pub struct WatchLink {
-    pub clause: ClauseId,
-    pub next: u32,
-}
-
-/// For each literal the clauses that watch it.
+/// For each literal the clauses that watch it. Both tables have one more than a link's number, or 0
+/// for none.
 #[derive(Drop)]
 pub struct WatchMap {
-    /// The number of the first link of each literal's list.
+    /// The first link of each literal's list.
     firsts: Vec<u32>,
-    links: Vec<WatchLink>,
-    ghost linked: { AreLinked firsts.items links.items },
-    ghost few: { length links.items ≤ 4294967295 },
+    /// The link after each one, or `UNLINKED` of one in no list.
+    nexts: Vec<u32>,
+    ghost linked: { AreLinked firsts.items nexts.items },
+    ghost few: { length nexts.items ≤ 4294967294 },
 }
+
+/// Marks a link that was in no list yet.
+const UNLINKED: u32 = u32::MAX;
 
 /// A place in the list of a literal's clauses: the link there, and the one before it.
 #[derive(Clone, Copy, Debug)]
@@ -42,7 +41,7 @@ pub struct WatchMapCursor {
 }
 
 impl WatchMap {
-    ghost use Rattle.std.specs.Prelude.{◌≡◌, ℕ, ◌<◌, ◌≤◌, ◌+◌, ◌++◌, ◌∷◌, [], List, Option, length, slice_get, false, Some, drop, OnOk, OnErr, IfOk, IsOk, IsOkUnless, vec_capacity};
+    ghost use Rattle.std.specs.Prelude.{◌≡◌, ℕ, ◌<◌, ◌≤◌, ◌+◌, ◌++◌, ◌∷◌, [], List, Option, length, slice_get, true, false, Some, drop, OnOk, OnErr, IfOk, IsOk, IsOkUnless, vec_capacity};
     ghost use Rattle.resolvo_pool_core.specs.declared.want.Want.TheVariants.{Memory};
     ghost use Rattle.resolvo_pool_core.specs.declared.id.ClauseId.{ClauseId};
     ghost use Rattle.resolvo_store_core.specs.Signed.{Signed, same_literal};
@@ -58,7 +57,7 @@ impl WatchMap {
     {
         WatchMap {
             firsts: Vec::new(alloc),
-            links: Vec::new(alloc),
+            nexts: Vec::new(alloc),
         }
     }
 
@@ -69,7 +68,8 @@ impl WatchMap {
         self.firsts.iter().filter(|first| **first != 0).count()
     }
 
-    /// Lets a new clause watch two different literals. It is put at the front of both lists.
+    /// Lets a new clause watch two different literals. It is put at the front of both lists. One
+    /// that watches already is refused as for want of memory.
     pub fn start_watching(&mut self, watched: WatchedLiterals, clause: ClauseId) -> R<()>
         requires { same_literal watched.first watched.second ≡ false }
         ensures started { OnOk result (StartsIn clause watched (watchers self.old)
@@ -84,10 +84,9 @@ impl WatchMap {
     {
         self.reserve(watched.first)?;
         self.reserve(watched.second)?;
-        let link = self.add_link(clause)?;
-        let other = self.add_link(clause)?;
+        let link = self.add_links(clause)?;
         self.link_first(watched.first, link);
-        self.link_first(watched.second, other);
+        self.link_first(watched.second, link + 1);
         Ok(())
     }
 
@@ -237,42 +236,63 @@ impl WatchMap {
         }
     }
 
-    /// Adds a link that is in no list. A map has fewer than 2^32 links, and refuses one more as it
-    /// does for want of memory.
-    fn add_link(&mut self, clause: ClauseId) -> R<u32>
+    /// The first of a clause's two links, which are in no list. A map has links for fewer than
+    /// 2^31 - 1 clauses. It refuses one more as it does for want of memory, and one that watches
+    /// already.
+    fn add_links(&mut self, clause: ClauseId) -> R<u32>
         ensures same { SameLists (watchers self.old) (watchers self.new) }
-        ensures links { SameLinks self.old self.new }
-        ensures last { IfOk result (λ n. n ≡ length self.old.links.items) }
-        ensures free { IfOk result (λ n. IsFreeLink self.new n) }
-        ensures clause { IfOk result (λ n. clause_of self.new.links.items n ≡ clause) }
+        ensures first { IfOk result (λ n. IsFreeLink self.new n × (clause_of n ≡ clause)) }
+        ensures second { IfOk result
+            (λ n. IsFreeLink self.new (n + 1) × (clause_of (n + 1) ≡ clause)) }
         ensures room { (l : Signed) → HasPlace self.old l → HasPlace self.new l }
         ensures refusal { IsOkUnless result Memory }
     {
-        let link = self.links.len();
-        if link >= 4_294_967_295 {
+        let link = clause.to_index() * 2;
+        if link > 4_294_967_292 {
             return Err(Want::Memory);
         }
-        self.links.push(WatchLink { clause, next: 0 })?;
-        Ok(link as u32)
+        self.reserve_links(link + 2)?;
+        if self.is_unlinked(link) && self.is_unlinked(link + 1) {
+            return Ok(link as u32);
+        }
+        Err(Want::Memory)
+    }
+
+    /// Makes so many links. Those that are added are in no list.
+    fn reserve_links(&mut self, count: usize) -> R<()>
+        requires { count ≤ 4294967294 }
+        ensures same { SameLists (watchers self.old) (watchers self.new) }
+        ensures there { OnOk result (count ≤ length self.new.nexts.items) }
+        ensures room { (l : Signed) → HasPlace self.old l → HasPlace self.new l }
+        ensures refusal { IsOkUnless result Memory }
+    {
+        while self.nexts.len() < count {
+            self.nexts.push(UNLINKED)?;
+        }
+        Ok(())
+    }
+
+    /// Whether a link was in no list yet.
+    fn is_unlinked(&self, link: usize) -> bool
+        requires { link < length self.now.nexts.items }
+        ensures { result ≡ true → IsFreeLink self.now link }
+    {
+        self.nexts[link] == UNLINKED
     }
 
     /// Puts a link that is in no list at the front of a literal's list.
     fn link_first(&mut self, literal: Literal, link: u32)
         requires room { HasPlace self.old literal }
         requires free { IsFreeLink self.old link }
-        ensures put { PutsFirst (clause_of self.old.links.items link) literal (watchers self.old)
-            (watchers self.new) }
+        ensures put { PutsFirst (clause_of link) literal (watchers self.old) (watchers self.new) }
         ensures others { (l : Signed)
             → same_literal literal l ≡ false
             → links self.new l ≡ links self.old l }
-        ensures clauses { (n : ℕ)
-            → clause_of self.new.links.items n
-            ≡ clause_of self.old.links.items n }
         ensures later { (n : ℕ) → link < n → IsFreeLink self.old n → IsFreeLink self.new n }
         ensures room { (l : Signed) → HasPlace self.old l → HasPlace self.new l }
     {
         let index = literal.to_index();
-        self.links[link as usize].next = self.firsts[index];
+        self.nexts[link as usize] = self.firsts[index];
         self.firsts[index] = link + 1;
     }
 
@@ -285,17 +305,14 @@ impl WatchMap {
         ensures at { IsPlaced (links self.new cursor.now.literal) cursor.now.place result
             cursor.now.before }
         ensures free { (n : ℕ) → cursor.now.current ≡ Some n → IsFreeLink self.new n }
-        ensures clauses { (n : ℕ)
-            → clause_of self.new.links.items n
-            ≡ clause_of self.old.links.items n }
         ensures room { (l : Signed) → HasPlace self.old l → HasPlace self.new l }
     {
         match cursor.current {
             Some(link) => {
-                let next = self.links[link as usize].next;
+                let next = self.nexts[link as usize];
                 let following = link_at(next);
                 match cursor.before {
-                    Some(before) => self.links[before as usize].next = next,
+                    Some(before) => self.nexts[before as usize] = next,
                     None => self.firsts[cursor.literal.to_index()] = next,
                 }
                 following
@@ -321,7 +338,7 @@ impl WatchMapCursor {
         ensures small { IfSome result (λ _. self.now.place < usize.MAX) }
     {
         match self.current {
-            Some(link) => Some(map.links[link as usize].clause),
+            Some(link) => Some(clause_at(link)),
             None => None,
         }
     }
@@ -338,7 +355,7 @@ impl WatchMapCursor {
             Some(link) => {
                 self.place += 1;
                 self.before = Some(link);
-                self.current = link_at(map.links[link as usize].next);
+                self.current = link_at(map.nexts[link as usize]);
             }
             None => unreachable!(),
         }
@@ -423,10 +440,9 @@ impl WatchMapCursor {
         map.reserve(to)?;
         match self.current {
             Some(link) => {
-                let clause = map.links[link as usize].clause;
                 self.current = map.take_out(self);
                 map.link_first(to, link);
-                clauses[clause.to_index()] = Some(watched.moved(self.literal, to));
+                clauses[clause_at(link).to_index()] = Some(watched.moved(self.literal, to));
                 Ok(())
             }
             None => unreachable!(),
@@ -444,6 +460,13 @@ impl WatchMapCursor {
             None
         }
     }
+}
+
+/// The clause of a link.
+fn clause_at(link: u32) -> ClauseId
+    ensures { result ≡ clause_of link }
+{
+    ClauseId(link / 2)
 }
 
 /// The link of a number, or none at 0.

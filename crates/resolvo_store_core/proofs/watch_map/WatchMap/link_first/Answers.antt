@@ -1,7 +1,6 @@
-use Rattle.std.proofs.Common.{◌≡◌, ◌<◌, ◌≤◌, ◌+◌, ℕ, suc, length, slice_set, length-set, refl, subst, arith}
+use Rattle.std.proofs.Common.{◌≡◌, ◌<◌, ◌≤◌, ◌+◌, ℕ, suc, length, slice_set, length-set, subst, arith}
 use Rattle.resolvo_store_core.specs.Links.{AreLinked}
-use Rattle.resolvo_store_core.specs.declared.watch_map.WatchLink.{WatchLink}
-use Rattle.resolvo_store_core.proofs.LinkLemmas.{first_linked, few_set, linked, clause_of-set}
+use Rattle.resolvo_store_core.proofs.LinkLemmas.{first_linked, few_set, linked}
 use Rattle.resolvo_store_core.proofs.WatchLemmas.{put_others, put_watchers, put_free}
 use Rattle.resolvo_store_core.proofs.watch_map.WatchMap.link_first.Goals as goal
 
@@ -16,10 +15,9 @@ invariant_of-self c =
     let s = c.args.self.now in
     let room = c.requires.room in
     let at = c.to_index-index.ensures.index in
-    let link : WatchLink = record { clause = c.index_mut.result.now.clause; next = c.index.result.now } in
     let e : suc c.args.link ≡ c.args.link + 1 = omega arith in
-    let set = linked _ _ _ (first_linked s.firsts.items s.links.items c.to_index-index.result c.args.link c.index.result.now c.index_mut.result.now s.linked c.requires.free.free (omega arith) c.requires.free.in_range c.index.ensures) in
-    record { linked = subst (λ (k : ℕ). AreLinked (slice_set s.firsts.items c.to_index-index.result k) (slice_set s.links.items c.args.link link)) e set; few = few_set s.links.items c.args.link _ s.few }
+    let set = linked _ _ _ (first_linked s.firsts.items s.nexts.items c.to_index-index.result c.args.link c.index.result.now s.linked c.requires.free.free (omega arith) c.requires.free.in_range c.index.ensures) in
+    record { linked = subst (λ (k : ℕ). AreLinked (slice_set s.firsts.items c.to_index-index.result k) (slice_set s.nexts.items c.args.link c.index.result.now)) e set; few = few_set s.nexts.items c.args.link _ s.few }
 
 pub returns-clause-put : goal.returns-clause-put
 returns-clause-put c =
@@ -28,8 +26,7 @@ returns-clause-put c =
     let at = c.to_index-index.ensures.index in
     let e : c.args.link + 1 ≡ suc c.args.link = omega arith in
     rw e (put_watchers s _ _ c.args.literal c.to_index-index.result c.args.link at
-    (first_linked s.firsts.items s.links.items c.to_index-index.result c.args.link c.index.result.now c.index_mut.result.now s.linked c.requires.free.free (omega arith) c.requires.free.in_range c.index.ensures)
-    (λ m. clause_of-set s.links.items c.args.link m c.index_mut.result.now _ c.requires.free.in_range c.index_mut.ensures.value refl))
+    (first_linked s.firsts.items s.nexts.items c.to_index-index.result c.args.link c.index.result.now s.linked c.requires.free.free (omega arith) c.requires.free.in_range c.index.ensures))
 
 pub returns-clause-others : goal.returns-clause-others
 returns-clause-others c =
@@ -38,10 +35,7 @@ returns-clause-others c =
     let at = c.to_index-index.ensures.index in
     let e : c.args.link + 1 ≡ suc c.args.link = omega arith in
     rw e (put_others s _ _ c.args.literal c.to_index-index.result c.args.link at
-    (first_linked s.firsts.items s.links.items c.to_index-index.result c.args.link c.index.result.now c.index_mut.result.now s.linked c.requires.free.free (omega arith) c.requires.free.in_range c.index.ensures))
-
-pub returns-clause-clauses : goal.returns-clause-clauses
-returns-clause-clauses c = λ m. clause_of-set c.args.self.now.links.items c.args.link m c.index_mut.result.now _ c.requires.free.in_range c.index_mut.ensures.value refl
+    (first_linked s.firsts.items s.nexts.items c.to_index-index.result c.args.link c.index.result.now s.linked c.requires.free.free (omega arith) c.requires.free.in_range c.index.ensures))
 
 pub returns-clause-later : goal.returns-clause-later
 returns-clause-later c = λ m apart free.
@@ -50,5 +44,5 @@ returns-clause-later c = λ m apart free.
     let at = c.to_index-index.ensures.index in
     let e : c.args.link + 1 ≡ suc c.args.link = omega arith in
     rw e (put_free s _ _ c.to_index-index.result c.args.link m
-    (first_linked s.firsts.items s.links.items c.to_index-index.result c.args.link c.index.result.now c.index_mut.result.now s.linked c.requires.free.free (omega arith) c.requires.free.in_range c.index.ensures)
-    (length-set s.links.items c.args.link (record { clause = c.index_mut.result.now.clause; next = c.index.result.now })) apart free)
+    (first_linked s.firsts.items s.nexts.items c.to_index-index.result c.args.link c.index.result.now s.linked c.requires.free.free (omega arith) c.requires.free.in_range c.index.ensures)
+    (length-set s.nexts.items c.args.link c.index.result.now) apart free)

@@ -1,12 +1,12 @@
 use Rattle.std.proofs.Common.{◌≡◌, ◌≤◌, ℕ, ◌-◌, length}
-use Rattle.resolvo_store_core.specs.Links.{first_at}
+use Rattle.resolvo_store_core.specs.Links.{named_at}
 use Rattle.resolvo_store_core.proofs.watch_map.WatchMap.reserve.Given as goal
 
 -- the lists that were added are empty
 abbrev pub invariant-loop-self : goal.invariant-loop-self
 invariant-loop-self l = record {
-  firsts : (i : ℕ) → first_at l.self.firsts.items i ≡ first_at l.initial.self.firsts.items i;
-  links : l.self.links ≡ l.initial.self.links;
+  firsts : (i : ℕ) → named_at l.self.firsts.items i ≡ named_at l.initial.self.firsts.items i;
+  nexts : l.self.nexts ≡ l.initial.self.nexts;
   longer : length l.initial.self.firsts.items ≤ length l.self.firsts.items;
 }
 
