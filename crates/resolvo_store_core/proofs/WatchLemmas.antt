@@ -54,14 +54,7 @@ marked_free m n x within read is = record { in_range = within; free = free }
         let few : length m.nexts.items ≤ 4294967294 = m.few in
         omega arith
 
--- a free link stays free where all links are in the lists as before
-pub still_free : (old : WatchMap) (fs' ls' : List ℕ) (n : ℕ) → KeepsLinks old.firsts.items old.nexts.items fs' ls' → IsFreeLink old n → IsUnlinked fs' ls' n
-still_free old fs' ls' n same is = record {
-  in_range = let low : n < length old.nexts.items = is.in_range in let more : length old.nexts.items ≤ length ls' = same.more in omega arith;
-  free = λ i a h. is.free i a (ap (λ (xs : List ℕ). slice_get xs a) (sym (same.lists i)) ∙ h);
-}
-
--- so does one behind the link that is put first
+-- a free link behind the one that is put first stays free
 pub put_free : (old : WatchMap) (fs' ls' : List ℕ) (i n m : ℕ) → AreLists fs' ls' (put_in i n (list_in old.firsts.items old.nexts.items)) → length ls' ≡ length old.nexts.items → n < m → IsFreeLink old m → IsUnlinked fs' ls' m
 put_free old fs' ls' i n m are long apart is = record {
   in_range = let low : m < length old.nexts.items = is.in_range in omega arith;
@@ -92,14 +85,6 @@ place_small m l place within =
     let size : length (watchers m l) ≡ length (links m l) = length-map (links m l) clause_of in
     let few : length (links m l) ≤ length m.nexts.items = chain_length m.nexts.items (length m.nexts.items) (named_at m.firsts.items (index_in l)) in
     omega arith
-
--- the link before a cursor is there
-pub before_in_range : (m : WatchMap) (k : WatchMapCursor) (b : ℕ) → IsAt m k → k.before ≡ Some b → b < length m.nexts.items
-before_in_range m k b at is = go k.place (sym at.before ∙ is)
-  where
-    go : (p : ℕ) → before_in (links m k.literal) p ≡ Some b → b < length m.nexts.items
-    go zero e = cc
-    go (suc q) e = m.linked.in_range (index_in k.literal) q b e
 
 -- the clause at a cursor
 pub clause_here : (m : WatchMap) (k : WatchMapCursor) (n : ℕ) → IsAt m k → k.current ≡ Some n → slice_get (watchers m k.literal) k.place ≡ Some (clause_of n)

@@ -1,4 +1,4 @@
-use Rattle.std.proofs.Common.{◌≡◌, ◌<◌, ◌≤◌, ◌+◌, ℕ, suc, length, slice_set, length-set, subst, arith}
+use Rattle.std.proofs.Common.{◌≡◌, ◌+◌, ℕ, suc, slice_set, length-set, subst, arith}
 use Rattle.resolvo_store_core.specs.Links.{AreLinked}
 use Rattle.resolvo_store_core.proofs.LinkLemmas.{first_linked, few_set, linked}
 use Rattle.resolvo_store_core.proofs.WatchLemmas.{put_others, put_watchers, put_free}

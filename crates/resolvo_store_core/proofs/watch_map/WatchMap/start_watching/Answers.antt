@@ -1,6 +1,5 @@
-use Rattle.std.proofs.Common.{◌≡◌, ◌<◌, ◌≤◌, ◌+◌, length, ◌∙◌, subst, arith}
+use Rattle.std.proofs.Common.{◌<◌, ◌≤◌, ◌+◌, length, ◌∙◌, subst, arith}
 use Rattle.resolvo_pool_core.specs.declared.id.ClauseId.{ClauseId}
-use Rattle.resolvo_store_core.specs.Links.{clause_of}
 use Rattle.resolvo_store_core.specs.Watches.{watchers, PutsFirst, SameLists}
 use Rattle.resolvo_store_core.proofs.Watched.{started_well}
 use Rattle.resolvo_store_core.proofs.WatchLemmas.{put_same, starts_in}

@@ -4,7 +4,7 @@ use Rattle.resolvo_store_core.specs.Signed.{index_in}
 use Rattle.resolvo_store_core.specs.Links.{list_in, AreLists}
 use Rattle.resolvo_store_core.specs.Watches.{links}
 use Rattle.resolvo_store_core.proofs.LinkLemmas.{taken_in, linked, out_behind, out_front, few_set, named_at-read}
-use Rattle.resolvo_store_core.proofs.WatchLemmas.{before_in_range, not_at_end, taken_at, taken_free, taken_watchers}
+use Rattle.resolvo_store_core.proofs.WatchLemmas.{not_at_end, taken_at, taken_free, taken_watchers}
 use Rattle.resolvo_store_core.proofs.watch_map.WatchMap.take_out.Goals as goal
 
 pub invariant_of-self : goal.invariant_of-self
