@@ -16,7 +16,7 @@ use Rattle.resolvo_catalogue_core.specs.Sets.{is_many}
 use Rattle.resolvo_catalogue_core.specs.Listed.{listed, AreDistinct}
 use Rattle.resolvo_pool_core.specs.declared.id.StringId.{StringId}
 use Rattle.resolvo_catalogue.specs.Ids.{Ids, IsWord, Grows}
-use Rattle.resolvo_catalogue.specs.Marked.{IsExclusion, IsMarked, AreMarked, AreMarksOf, AreMany, HaveNoMarks, HaveNone, no_marks}
+use Rattle.resolvo_catalogue.specs.Marked.{IsExclusion, IsMarked, AreMarked, AreMarksOf, AreMany, HaveNoMarks, no_marks}
 use Rattle.resolvo_catalogue.specs.declared.candidate_flags.CandidateFlags.{CandidateFlags}
 use Rattle.resolvo_terms.proofs.Places.{get_new, set_at, set_others, set_length, no_element, first_element, later_element, element_cases, at_from_contains}
 use Rattle.std.proofs.lemmas.List.Concat.{flat_map-cons}
@@ -200,14 +200,18 @@ pub no_favours : (lines : List Line) (fs : List (ℕ × VersionNo)) (v : Version
 no_favours lines [] v all none has = let at = at_from_contains lines (Favour v) has in no_element (suc at.0) ((all.all (suc at.0)).1 (Favour v, at.1, tt))
 no_favours lines (f ∷ fs) v all none has = omega (arith, none)
 
-pub none_marked : (ids : Ids) (lines : List Line) (versions : List Version) (marks : List CandidateFlags) → HaveNone lines versions → marks ≡ [] → AreMarksOf ids lines versions marks
-none_marked ids lines versions marks none is = subst (λ (ms : List CandidateFlags). AreMarksOf ids lines versions ms) (sym is) each
+pub no_lines : (lines : List Line) (versions : List Version) → length lines ≡ 0 → HaveNoMarks lines versions
+no_lines [] versions none = λ k v at. (λ has. omega (arith, has.1), λ word has. omega (arith, has.1))
+no_lines (l ∷ ls) versions none = omega (arith, none)
+
+pub none_marked : (ids : Ids) (lines : List Line) (versions : List Version) (marks : List CandidateFlags) → HaveNoMarks lines versions → ((v : Version) → Contains lines (Favour v) → ⊥) → marks ≡ [] → AreMarksOf ids lines versions marks
+none_marked ids lines versions marks none favours is = subst (λ (ms : List CandidateFlags). AreMarksOf ids lines versions ms) (sym is) each
   where
     each : AreMarksOf ids lines versions []
     each k v at = record {
-      locked = (λ e. absurd (false≢true e), λ has. absurd ((none.0 k v at).0 has));
-      favored = (λ e. absurd (false≢true e), λ has. absurd (none.1 v has));
-      excluded = (none.0 k v at).1;
+      locked = (λ e. absurd (false≢true e), λ has. absurd ((none k v at).0 has));
+      favored = (λ e. absurd (false≢true e), λ has. absurd (favours v has));
+      excluded = (none k v at).1;
       line = λ w e. absurd cc;
     }
 

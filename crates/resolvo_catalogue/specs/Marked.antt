@@ -40,7 +40,3 @@ AreMarksOf ids lines versions marks = (k : ℕ) (v : Version) → slice_get vers
 -- No line locks or excludes one of these versions.
 abbrev pub HaveNoMarks : List Line → List Version → Type 0
 HaveNoMarks lines versions = (k : ℕ) (v : Version) → slice_get versions k ≡ Some v → (Contains lines (Lock v) → ⊥) × ((word : List ℕ) → Contains lines (Exclude v word) → ⊥)
-
--- nor does one favour any
-abbrev pub HaveNone : List Line → List Version → Type 0
-HaveNone lines versions = HaveNoMarks lines versions × ((v : Version) → Contains lines (Favour v) → ⊥)

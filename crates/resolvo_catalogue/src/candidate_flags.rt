@@ -8,7 +8,7 @@ ghost use Rattle.resolvo_catalogue_core.specs.Sets.{is_many};
 ghost use Rattle.resolvo_catalogue_core.specs.Listed.{listed, AreDistinct};
 ghost use Rattle.resolvo_catalogue.specs.Ids.{Ids, terms_of};
 ghost use Rattle.resolvo_terms.specs.Known.{name_text};
-ghost use Rattle.resolvo_catalogue.specs.Marked.{AreMarked, AreMarksOf, AreMany, HaveNoMarks, HaveNone};
+ghost use Rattle.resolvo_catalogue.specs.Marked.{AreMarked, AreMarksOf, AreMany, HaveNoMarks};
 
 use resolvo_catalogue_core::{Catalogue, KeptLines, KeptRule, VersionNo};
 use resolvo_pool_core::id::{NameId, StringId};
@@ -34,20 +34,6 @@ const NO_FLAGS: CandidateFlags = CandidateFlags {
     line: 0,
 };
 
-/// Whether a line locks, excludes or favours a version.
-fn is_marked(kept: &KeptLines<'_>, catalogue: &Catalogue) -> bool
-    requires { kept.now.lines ≡ catalogue.now }
-    ensures { result ≡ false → HaveNone catalogue.now (listed catalogue.now) }
-{
-    if kept.has_marks() {
-        return true;
-    }
-    if catalogue.favours().is_empty() {
-        return false;
-    }
-    true
-}
-
 /// The marks of each version, by its number. Most catalogues have none, and then there is no list.
 pub fn marks_of(
     alloc: Global,
@@ -62,16 +48,18 @@ pub fn marks_of(
         → AreMarksOf ids catalogue.now (listed catalogue.now) marks.items) }
     ensures refusal { IsOkUnless result Memory }
 {
-    if !is_marked(kept, catalogue) {
+    let lines = lines_to_mark(kept);
+    let favours = catalogue.favours();
+    if lines == 0 && favours.is_empty() {
         return Ok(Vec::new(alloc));
     }
     let mut marks = unmarked(alloc, catalogue.versions().len())?;
-    for line in 0..lines_to_mark(kept) {
+    for line in 0..lines {
         if let Some(rule) = kept.rule(line + 1) {
             mark(&mut marks, rule, line + 1);
         }
     }
-    for (_, version) in catalogue.favours() {
+    for (_, version) in favours {
         favour(&mut marks, *version);
     }
     Ok(marks)

@@ -9,4 +9,4 @@ abbrev pub invariant-loop-line : goal.invariant-loop-line
 invariant-loop-line l = (ids : Ids) → terms_of ids ≡ l.kept.terms → AreMarked ids (take l.line l.catalogue) [] (listed l.catalogue) l.marks.items
 
 abbrev pub invariant-loop-version : goal.invariant-loop-version
-invariant-loop-version l = (ids : Ids) → terms_of ids ≡ l.kept.terms → AreMarked ids l.catalogue (favour_lines (listed l.catalogue) (take l.version-index l.version-items)) (listed l.catalogue) l.marks.items
+invariant-loop-version l = (ids : Ids) → terms_of ids ≡ l.kept.terms → AreMarked ids l.catalogue (favour_lines (listed l.catalogue) (take l.version-index l.favours)) (listed l.catalogue) l.marks.items
