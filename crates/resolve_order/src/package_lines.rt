@@ -2,7 +2,7 @@
 //! known by its place in the list of all lines. The key of a SPEC is the number of the one version
 //! that it may match, or else that of its package's first version. Used by `open_lines`.
 
-ghost use Rattle.std.specs.Prelude.{◌≡◌, ◌≤◌, ◌∷◌, [], ℕ, true, Some, IfOk, OnOk, List, length, slice_get};
+ghost use Rattle.std.specs.Prelude.{◌≡◌, ◌<◌, ◌≤◌, ◌∷◌, [], ℕ, false, true, Some, IfOk, OnOk, List, length, slice_get};
 ghost use Rattle.std.specs.Option.{option_map};
 ghost use Rattle.resolvo_text.specs.Line as content;
 ghost use Rattle.resolvo_text.specs.View.{spec_of, cond_of, condition_of};
@@ -165,7 +165,8 @@ impl PackageLines {
 
     /// Whether no line was kept.
     pub fn is_empty(&self) -> bool
-        ensures { result ≡ true → (k i : ℕ) → is_kept self.now k i ≡ true → ⊥ }
+        ensures none { result ≡ true → (k i : ℕ) → is_kept self.now k i ≡ true → ⊥ }
+        ensures some { result ≡ false → 0 < length self.now.lines.items }
     {
         self.lines.is_empty()
     }

@@ -7,7 +7,7 @@ use Rattle.resolve_order.proofs.open_lines.reopen.Goals as goal
 
 pub returns-then-is_empty : goal.returns-then-is_empty
 returns-then-is_empty c = record {
-  opened = λ k i key kept less. absurd (c.is_empty.ensures c.if-is_empty.true k i kept);
+  opened = λ k i key kept less. absurd (c.is_empty.ensures.none c.if-is_empty.true k i kept);
   stays = λ i is. is;
   within = λ i is. inl is;
   others = λ k i none kept. kept;
