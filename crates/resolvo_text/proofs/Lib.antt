@@ -15,3 +15,4 @@ pub mod LineLaws
 pub mod TextLaws
 pub mod CaseLaws
 pub mod Mapped
+pub mod BeginLemmas

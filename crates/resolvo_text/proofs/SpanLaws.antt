@@ -33,7 +33,7 @@ no_digit_at word i n lt none small is =
 pub not_a_number : (word : List ℕ) (i : ℕ) → i < length word → IsNoDigit (get_or word i 0) → number_in word ≡ None
 not_a_number word i lt none = number_in_none word (λ n small is. no_digit_at word i n lt none small is)
 
-number_in-nil : number_in [] ≡ None
+pub number_in-nil : number_in [] ≡ None
 number_in-nil = number_in_none [] (λ n small is. absurd (omega (arith, decimal_nonempty n (omega arith), ap (λ (xs : List ℕ). length xs) is)))
 
 abbrev first_of : Words → List ℕ

@@ -76,6 +76,14 @@ end_at (word ∷ words) = None
 abbrev pub whole_of : {X : Type 0} → X × Words → Option X
 whole_of x = end_at x.1 >>= λ _. Some x.0
 
+-- the number that is the only word
+unfoldable pub last_number : Words → Option ℕ
+last_number words = do
+  first ← word_at words
+  n ← number_in first.0
+  end ← end_at first.1
+  Some n
+
 unfoldable pub version_at : Words → Option (Version × Words)
 version_at words = do
   first ← word_at words

@@ -25,8 +25,8 @@ pub use line::{Line, LineFault};
 pub use lines::{LineReader, ReadFault};
 pub use memory::{MemorySink, MemorySource};
 pub use parse::{
-    alternatives_at, first_word, is_skipped, limits_words, line_in, listed_words, name_of,
-    needs_words, next_word, no_more, number_of, reason_at, skip, span_at, spec_at,
+    alternatives_at, first_word, is_skipped, last_number, limits_words, line_in, listed_words,
+    name_of, needs_words, next_word, no_more, number_of, reason_at, skip, span_at, spec_at,
     text_is_one_line, version_at, word_at,
 };
 pub use spec::{Span, Spec, Version, is_in_span, is_member, is_met, is_met_by_one, matches};

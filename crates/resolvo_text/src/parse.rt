@@ -4,15 +4,16 @@
 //! space. A parser of a part returns the part and what is left. Readers of whole texts call
 //! `line_in`; the parser of reports calls the parsers of parts.
 
-ghost use Rattle.std.specs.Prelude.{◌≡◌, ◌<◌, ◌≤◌, ◌∷◌, List, ℕ, length, Err, Some, IfOk, IfSome, IsTrue};
+ghost use Rattle.std.specs.Prelude.{◌≡◌, ◌<◌, ◌≤◌, ◌∷◌, List, ℕ, length, Err, Some, IfOk, IfSome, IsTrue, false};
 ghost use Rattle.std.specs.List.{position, slice_split};
 ghost use Rattle.std.specs.Option.{option_map};
 ghost use Rattle.std.specs.String.{string_bytes};
 ghost use Rattle.resolvo_text.specs.Line as parsed;
 ghost use Rattle.resolvo_text.specs.Spelling.{SpellsLine};
 ghost use Rattle.resolvo_text.specs.declared.line.LineFault.TheVariants.{Fault};
+ghost use Rattle.resolvo_text.specs.declared.spec.Span.TheVariants.{Any};
 ghost use Rattle.resolvo_text.specs.View.{version_of, spec_of, specs_of, list_of, view};
-ghost use Rattle.resolvo_text.specs.Parse.{Gives, word_at, version_at, reason_at, span_at, spec_at, skip, with_first, alternatives_at, name_in, number_in, end_at, version_in, reason_in, spec_in, needs_in, line_by, is_space, words_in, is_skipped, line_in};
+ghost use Rattle.resolvo_text.specs.Parse.{Gives, word_at, version_at, reason_at, span_at, spec_at, skip, with_first, alternatives_at, name_in, number_in, last_number, end_at, version_in, reason_in, spec_in, needs_in, line_by, is_space, words_in, is_skipped, line_in};
 
 use crate::alternatives::Alternatives;
 use crate::condition::condition_in;
@@ -69,6 +70,16 @@ pub fn number_of(word: &[u8]) -> Result<u32, LineFault>
     number_in(word).ok_or(LineFault::Fault)
 }
 
+/// The number that is the only word.
+pub fn last_number(words: &[u8]) -> Result<u32, LineFault>
+    ensures { Gives (λ n. n) result (last_number (words_in words.now)) }
+{
+    match words.split_first() {
+        Some((_, digits)) => number_of(digits),
+        None => Err(LineFault::Fault),
+    }
+}
+
 #[tactic(auto, unfolding(crate::specs::Parse::version_at))]
 pub fn version_at(alloc: Global, words: &[u8]) -> Result<(Version, &[u8]), LineFault>
     ensures { Gives (λ x. (version_of x.0, words_in x.1.now)) result (version_at (words_in words.now)) }
@@ -88,11 +99,25 @@ pub fn reason_at(alloc: Global, words: &[u8]) -> Result<(String, &[u8]), LineFau
     Ok((name_of(alloc, word)?, words))
 }
 
+/// Whether the next word begins with another byte than a digit.
+#[inline(always)]
+fn begins_without_digit(words: &[u8]) -> bool
+    ensures { IsTrue result → (Any, words_in words.now) ≡ span_at (words_in words.now) }
+{
+    match words.get(1) {
+        Some(first) => !first.is_ascii_digit(),
+        None => false,
+    }
+}
+
 #[tactic(auto, unfolding(crate::specs::Parse::span_at))]
 pub fn span_at(words: &[u8]) -> (Span, &[u8])
     ensures shorter { length result.1.now ≤ length words.now }
     ensures words { (result.0, words_in result.1.now) ≡ span_at (words_in words.now) }
 {
+    if begins_without_digit(words) {
+        return (Span::Any, words);
+    }
     if let Some((word, after)) = next_word(words) {
         if let Some(span) = span_in(word) {
             return (span, after);
@@ -112,12 +137,29 @@ pub fn spec_at(alloc: Global, words: &[u8]) -> Result<(Spec, &[u8]), LineFault>
     Ok((Spec { name, span }, words))
 }
 
+/// Whether the next word begins with another byte than this one.
+#[inline(always)]
+fn begins_apart(words: &[u8], word: &[u8]) -> bool
+    ensures { IsTrue result → (false, words_in words.now) ≡ skip word.now (words_in words.now) }
+{
+    match words.get(1) {
+        Some(next) => match word.first() {
+            Some(first) => *next != *first,
+            None => false,
+        },
+        None => false,
+    }
+}
+
 /// Whether the next word is this one, and the words that are left.
 #[tactic(auto, unfolding(crate::specs::Parse::skip))]
 pub fn skip<'a>(words: &'a [u8], word: &[u8]) -> (bool, &'a [u8])
     ensures shorter { length result.1.now ≤ length words.now }
     ensures words { (result.0, words_in result.1.now) ≡ skip word.now (words_in words.now) }
 {
+    if begins_apart(words, word) {
+        return (false, words);
+    }
     if let Some((next, after)) = next_word(words) {
         if next == word {
             return (true, after);

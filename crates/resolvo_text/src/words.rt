@@ -3,7 +3,7 @@
 //! A word is its bytes; a parser of a word returns the one value that the word spells. The parsers
 //! of parts of lines call these.
 
-ghost use Rattle.std.specs.Prelude.{◌≡◌, ◌==◌, ◌*◌, ◌+◌, ◌^◌, ◌<◌, ◌≤◌, SomeIff, map, IfOk, IfSome, IfNone, MatchOption, option_copied};
+ghost use Rattle.std.specs.Prelude.{◌≡◌, ◌==◌, ◌*◌, ◌+◌, ◌^◌, ◌<◌, ◌≤◌, SomeIff, map, IfOk, IfSome, IfNone, MatchOption, option_copied, Some};
 ghost use Rattle.std.specs.Char.{digit_value};
 ghost use Rattle.std.specs.Str.Parse.{AllDigits, digits_value};
 ghost use Rattle.std.specs.Option.{option_map};
@@ -80,9 +80,14 @@ fn digit_of(byte: u8) -> Option<u32>
 
 /// One more digit of a number, where there is room for it.
 fn with_digit(value: u32, digit: u32) -> Option<u32>
+    requires { digit < 10 }
     ensures value { IfSome result (λ n. n ≡ value * 10 + digit) }
     ensures full { IfNone result (2 ^ 32 ≤ value * 10 + digit) }
 {
+    // Most numbers are far from the largest one.
+    if value < 429_496_729 {
+        return Some(value * 10 + digit);
+    }
     value.checked_mul(10)?.checked_add(digit)
 }
 
@@ -130,11 +135,12 @@ fn dot_in(word: &[u8]) -> Option<usize>
     word.iter().position(|b| *b == b'.')
 }
 
+/// The range that a word spells whose first dot is at this place.
 #[tactic(auto, unfolding(crate::specs::Parse::range_in))]
-fn range_in(word: &[u8]) -> Option<Span>
+fn range_at(word: &[u8], dot: usize) -> Option<Span>
+    requires { position is_dot word.now ≡ Some dot }
     ensures { result ≡ range_in word.now }
 {
-    let dot = dot_in(word)?;
     let low = number_in(&word[..dot])?;
     let high = number_after_dot(&word[dot + 1..])?;
     if low < high {
@@ -148,8 +154,11 @@ fn range_in(word: &[u8]) -> Option<Span>
 pub fn span_in(word: &[u8]) -> Option<Span>
     ensures { result ≡ span_in word.now }
 {
-    match number_in(word) {
-        Some(n) => Some(Span::One(n)),
-        None => range_in(word),
+    match dot_in(word) {
+        Some(dot) => range_at(word, dot),
+        None => match number_in(word) {
+            Some(n) => Some(Span::One(n)),
+            None => None,
+        },
     }
 }
