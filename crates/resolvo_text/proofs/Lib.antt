@@ -16,3 +16,4 @@ pub mod TextLaws
 pub mod CaseLaws
 pub mod Mapped
 pub mod BeginLemmas
+pub mod SpaceLemmas

@@ -1,5 +1,5 @@
 -- Reading a line from left to right.
-use Rattle.std.specs.Prelude.{◌≡◌, ℕ, ◌+◌, ◌^◌, take, drop, zero, suc, length, Bool, true, false, ◌&&◌, ◌==◌, nat_lt, if◌then◌else◌, ⊤, List, [], ◌∷◌, Option, Some, None, option_and_then, Result, Ok, Err, codes}
+use Rattle.std.specs.Prelude.{◌≡◌, ℕ, ◌+◌, ◌^◌, ◌<◌, slice_index_or, take, drop, zero, suc, length, Bool, true, false, ◌&&◌, ◌==◌, nat_lt, if◌then◌else◌, ⊤, List, [], ◌∷◌, Option, Some, None, option_and_then, Result, Ok, Err, codes}
 use Rattle.std.specs.Fmt.{decimal}
 use Rattle.std.specs.Str.{bytes_eq}
 use Rattle.std.specs.Str.Parse.{digits_value}
@@ -58,6 +58,10 @@ name_in word = if is_name word then Some word else None
 
 abbrev pub is_space : ℕ → Bool
 is_space b = b == 32
+
+-- No space is before a place.
+abbrev pub NoSpaceBefore : List ℕ → ℕ → Type 0
+NoSpaceBefore text n = (k : ℕ) → k < n → is_space (slice_index_or text k 0) ≡ false
 
 -- the words of the rest of a line, each of which follows a space
 abbrev pub words_in : List ℕ → Words

@@ -30,5 +30,5 @@ pub use parse::{
     text_is_one_line, version_at, word_at,
 };
 pub use spec::{Span, Spec, Version, is_in_span, is_member, is_met, is_met_by_one, matches};
-pub use words::{is_name, name_in, number_in, span_in};
+pub use words::{is_name, number_in, span_in};
 pub use write::{WriteFault, write_all};

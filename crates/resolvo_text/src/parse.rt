@@ -13,7 +13,7 @@ ghost use Rattle.resolvo_text.specs.Spelling.{SpellsLine};
 ghost use Rattle.resolvo_text.specs.declared.line.LineFault.TheVariants.{Fault};
 ghost use Rattle.resolvo_text.specs.declared.spec.Span.TheVariants.{Any};
 ghost use Rattle.resolvo_text.specs.View.{version_of, spec_of, specs_of, list_of, view};
-ghost use Rattle.resolvo_text.specs.Parse.{Gives, word_at, version_at, reason_at, span_at, spec_at, skip, with_first, alternatives_at, name_in, number_in, last_number, end_at, version_in, reason_in, spec_in, needs_in, line_by, is_space, words_in, is_skipped, line_in};
+ghost use Rattle.resolvo_text.specs.Parse.{Gives, word_at, version_at, reason_at, span_at, spec_at, skip, with_first, alternatives_at, name_in, number_in, last_number, end_at, version_in, reason_in, spec_in, needs_in, line_by, is_space, NoSpaceBefore, words_in, is_skipped, line_in};
 
 use crate::alternatives::Alternatives;
 use crate::condition::condition_in;
@@ -22,10 +22,41 @@ use crate::spec::{Span, Spec, Version};
 use crate::words::{name_in, number_in, span_in};
 use std::alloc::Global;
 
+// Four bytes are looked at in a round.
 fn space_in(text: &[u8]) -> Option<usize>
     ensures { result ≡ position is_space text.now }
 {
-    text.iter().position(|b| *b == b' ')
+    let fours = text.len() / 4;
+    for four in 0..fours {
+        let at = four * 4;
+        if text[at] == b' ' {
+            return Some(at);
+        }
+        if text[at + 1] == b' ' {
+            return Some(at + 1);
+        }
+        if text[at + 2] == b' ' {
+            return Some(at + 2);
+        }
+        if text[at + 3] == b' ' {
+            return Some(at + 3);
+        }
+    }
+    space_from(text, fours * 4)
+}
+
+/// The first space, where none is before this place.
+#[inline(always)]
+fn space_from(text: &[u8], begin: usize) -> Option<usize>
+    requires { NoSpaceBefore text.now begin }
+    ensures { result ≡ position is_space text.now }
+{
+    for at in begin..text.len() {
+        if text[at] == b' ' {
+            return Some(at);
+        }
+    }
+    None
 }
 
 /// The first word of a text, and the rest after it.
