@@ -1,4 +1,5 @@
 pub mod Places
+pub mod BytesLemmas
 pub mod TextPlaces
 pub mod FoundLemmas
 pub mod TextLemmas

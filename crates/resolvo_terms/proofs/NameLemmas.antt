@@ -1,7 +1,7 @@
 -- The first of some texts are known to spell names.
 use Rattle.std.proofs.Common.{◌≡◌, ◌∙◌, ◌+◌, ◌<◌, ◌≤◌, ◌⊎◌, inl, inr, ℕ, zero, suc, true, false, List, [], Option, Some, None, Ok, length, refl, sym, ap, subst, arith}
 use Rattle.std.specs.Prelude.{slice_get}
-use Rattle.std.proofs.lemmas.Option.{slice_get_within, slice_get-get_or, same_Some, cond_some}
+use Rattle.std.proofs.lemmas.Option.{slice_get_within, slice_get-get_or, same_Some}
 use Rattle.resolvo_text.specs.Spelling.{is_name}
 use Rattle.resolvo_text.specs.Parse.{name_in}
 use Rattle.resolvo_terms.specs.Terms.{Extends}
@@ -61,15 +61,3 @@ known_read texts i word at is = subst (λ (o : Option (List ℕ)). Reads (λ n n
 pub no_name : (word : List ℕ) → is_name word ≡ false → name_in word ≡ None
 unfolding name_in
 no_name word is = rw is refl
-
--- What a word spells is the word.
-pub spells_itself : (word name : List ℕ) → name_in word ≡ Some name → word ≡ name
-unfolding name_in
-spells_itself word name e = (cond_some (is_name word) word name e).1
-
--- What a word spells is a name.
-pub named_in : (word name : List ℕ) → name_in word ≡ Some name → is_name name ≡ true
-unfolding name_in
-named_in word name e =
-    let g = cond_some (is_name word) word name e in
-    subst (λ (w : List ℕ). is_name w ≡ true) g.1 g.0

@@ -1,8 +1,10 @@
 //! Hashes of bytes and of numbers, by which values are sorted or guessed. Whoever uses one compares
 //! the values too. Used by `text_ids`, `key_index` and `unions`.
 
-ghost use Rattle.std.specs.Prelude.{◌≡◌, ◌<◌, ◌≤◌, ◌+◌, length};
-ghost use Rattle.resolvo_terms.specs.Hash.{eight_at, few_of, four_at, last_of, mix, numbers_hash};
+ghost use Rattle.std.specs.Prelude.{◌≡◌};
+ghost use Rattle.resolvo_terms.specs.Hash.{few_of, last_of, mix, numbers_hash};
+
+use crate::bytes::{eight_at, four_at};
 
 /// A hash of bytes: of eight at a time as one number, then of the last ones, and of how many there
 /// are.
@@ -43,25 +45,6 @@ fn few_of(bytes: &[u8]) -> usize
     }
     let low = bytes[0] as usize + bytes[length / 2] as usize * 256;
     low + bytes[length - 1] as usize * 65_536
-}
-
-/// Eight bytes from a place on, as a number.
-fn eight_at(bytes: &[u8], at: usize) -> usize
-    requires { at + 8 ≤ length bytes.now }
-    ensures { result ≡ eight_at bytes.now at }
-{
-    four_at(bytes, at) + four_at(bytes, at + 4) * 4_294_967_296
-}
-
-/// Four bytes from a place on, as a number.
-fn four_at(bytes: &[u8], at: usize) -> usize
-    requires { at + 4 ≤ length bytes.now }
-    ensures number { result ≡ four_at bytes.now at }
-    ensures small { result < 4294967296 }
-{
-    let low = bytes[at] as usize + bytes[at + 1] as usize * 256;
-    let high = bytes[at + 2] as usize + bytes[at + 3] as usize * 256;
-    low + high * 65_536
 }
 
 /// The hash of what a hash is of, and one number more.

@@ -132,6 +132,20 @@ impl KeyIndex {
         if placed {
             return Ok(());
         }
+        self.put_other(key, at)?;
+        Ok(())
+    }
+
+    /// The same for a key whose places others have.
+    #[inline(never)]
+    fn put_other(&mut self, key: Key, at: u32) -> Result<(), AllocError>
+        ensures put { OnOk result
+            ((k : Key)
+            → number_in self.new.others.entries k
+            ≡ (if key_eq key k then Some at else number_in self.old.others.entries k)) }
+        ensures others { OnErr result (self.new.others.entries ≡ self.old.others.entries) }
+        ensures slots { self.new.slots ≡ self.old.slots }
+    {
         self.others.insert(key, at)?;
         Ok(())
     }

@@ -1,6 +1,7 @@
 //! Names, SPECs, lists of alternatives, conditions and words by numbers.
 #![tactic(auto)]
 
+mod bytes;
 mod compare;
 mod decode;
 mod hash;

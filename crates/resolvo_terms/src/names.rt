@@ -15,7 +15,7 @@ ghost use Rattle.resolvo_terms.specs.Reads.{Reads};
 
 use crate::text_ids::{TextIds, hash_of_text};
 use resolvo_pool_core::want::R;
-use resolvo_text::{LineFault, is_name, name_in};
+use resolvo_text::{LineFault, is_name};
 use std::alloc::{AllocError, Global};
 use std::marker::Model;
 
@@ -147,10 +147,10 @@ impl Names {
         ensures extends { Extends self.old self.new }
         ensures few { length self.new ≤ length self.old + 1 }
     {
-        let Some(name) = name_in(word) else {
+        if !is_name(word) {
             return Err(LineFault::Fault);
-        };
-        let Ok(number) = self.texts.add_new(alloc, name, hash) else {
+        }
+        let Ok(number) = self.texts.add_new(alloc, word, hash) else {
             return Err(LineFault::Memory);
         };
         if number as usize == self.checked {

@@ -13,7 +13,7 @@ use crate::terms::Terms;
 use resolvo_pool_core::id::{NameId, VersionSetId};
 use resolvo_pool_core::requirement::{ConditionalRequirement, Requirement};
 use resolvo_pool_core::want::R;
-use resolvo_text::{LineFault, Span, no_more, number_of, skip, span_at, word_at};
+use resolvo_text::{LineFault, Span, last_number, no_more, skip, span_at, word_at};
 
 /// The room that is made at first for alternatives that a bar parts.
 const FEW: usize = 2;
@@ -131,7 +131,7 @@ impl Terms {
 
     /// The package and the number of the version of the words after `version`. The name of a known
     /// package isn't looked at byte by byte.
-    #[tactic(auto, unfolding(resolvo_text::specs::Parse::version_in, resolvo_text::specs::Parse::version_at))]
+    #[tactic(auto, unfolding(resolvo_text::specs::Parse::version_in, resolvo_text::specs::Parse::version_at, resolvo_text::specs::Parse::last_number))]
     pub fn version_in(&mut self, words: &[u8]) -> Result<(NameId, u32), LineFault>
         ensures version { Reads
             (λ x v. IsPackage self.new x.0 v.name × (x.1 ≡ v.number))
@@ -141,9 +141,7 @@ impl Terms {
     {
         let (word, words) = word_at(words)?;
         let package = self.listed_package(word)?;
-        let (word, words) = word_at(words)?;
-        let number = number_of(word)?;
-        no_more(words)?;
+        let number = last_number(words)?;
         Ok((package, number))
     }
 

@@ -53,7 +53,7 @@ impl Slots {
     }
 
     /// What lies at a place, if there is one.
-    fn slot(&self, place: usize) -> Option<u32>
+    pub fn slot(&self, place: usize) -> Option<u32>
         ensures { result ≡ slot_at self.now.numbers.items place }
     {
         self.numbers
@@ -66,21 +66,14 @@ impl Slots {
         ensures free { IsTrue result → slot_at self.now.numbers.items place ≡ Some 0 }
         ensures taken { result ≡ false → slot_at self.now.numbers.items place ≡ Some 0 → ⊥ }
     {
-        match self.slot(place) {
-            Some(0) => true,
-            _ => false,
-        }
+        is_free_slot(self.slot(place))
     }
 
     /// The number that lies at a place.
-    #[tactic(auto, using(crate::proofs::IndexLemmas::slot_zero, crate::proofs::IndexLemmas::slot_next))]
     pub fn number_at(&self, place: usize) -> Option<u32>
         ensures { result ≡ number_in_slot (slot_at self.now.numbers.items place) }
     {
-        match self.slot(place) {
-            None => None,
-            Some(next) => { if next == 0 { None } else { Some(next - 1) } }
-        }
+        number_in_slot(self.slot(place))
     }
 
     /// The first free place of a hash.
@@ -112,6 +105,28 @@ impl Slots {
             }
             None => false,
         }
+    }
+}
+
+/// The number in what lies at a place.
+#[tactic(auto, using(crate::proofs::IndexLemmas::slot_zero, crate::proofs::IndexLemmas::slot_next))]
+pub fn number_in_slot(slot: Option<u32>) -> Option<u32>
+    ensures { result ≡ number_in_slot slot }
+{
+    match slot {
+        None => None,
+        Some(next) => { if next == 0 { None } else { Some(next - 1) } }
+    }
+}
+
+/// Whether there is a place, and it is free.
+pub fn is_free_slot(slot: Option<u32>) -> bool
+    ensures free { IsTrue result → slot ≡ Some 0 }
+    ensures taken { result ≡ false → slot ≡ Some 0 → ⊥ }
+{
+    match slot {
+        Some(0) => true,
+        _ => false,
     }
 }
 

@@ -5,13 +5,14 @@
 ghost use Rattle.std.specs.Prelude.{◌≡◌, ◌≤◌, ◌<◌, ◌+◌, [], ℕ, List, Option, if◌then◌else◌, IfOk, IfSome, IsErrOf, IsTrue, OnOk, OnErr, length, slice_get, Some, None};
 ghost use Rattle.resolvo_pool_core.specs.declared.want.Want.TheVariants.{Ids};
 ghost use Rattle.std.specs.Option.{option_map};
-ghost use Rattle.std.specs.Str.{bytes_eq};
+ghost use Rattle.std.specs.Str.{IsUtf8, bytes_eq};
 ghost use Rattle.resolvo_terms.specs.Terms.{AreOnce, Extends};
 ghost use Rattle.resolvo_terms.specs.Known.{place_of};
-ghost use Rattle.resolvo_terms.specs.Found.{AreTextsFound, IsPut, number_from, number_if, number_of_slot, or_later, place_from, slot_at, list_number_in, tries, text_hash};
+ghost use Rattle.resolvo_terms.specs.Found.{AreTextsFound, IsPut, number_from, number_if, number_of_slot, or_later, place_from, list_number_in, tries, text_hash};
 
+use crate::bytes::same_bytes;
 use crate::hash::hash_of_all;
-use crate::slots::{Slots, TRIES, first_place};
+use crate::slots::{Slots, TRIES, first_place, is_free_slot, number_in_slot};
 use crate::text_list::TextList;
 use resolvo_pool_core::id::next_index;
 use resolvo_pool_core::want::{R, Want};
@@ -102,7 +103,7 @@ impl TextIds {
         let hash = hash_of_text(bytes);
         match self.find(bytes, hash) {
             Some(id) => Ok(id),
-            None => self.add_new(alloc, text, hash),
+            None => self.add_new(alloc, bytes, hash),
         }
     }
 
@@ -117,7 +118,8 @@ impl TextIds {
 
     /// Numbers a text of this hash that has no number.
     #[inline(never)]
-    pub fn add_new(&mut self, alloc: Global, text: &str, hash: usize) -> R<u32>
+    pub fn add_new(&mut self, alloc: Global, text: &[u8], hash: usize) -> R<u32>
+        requires utf8 { IsUtf8 text.now }
         requires hash { hash ≡ text_hash text.now }
         requires absent { (i : ℕ) → slice_get self.old i ≡ Some text.now → ⊥ }
         ensures text { IfOk result (λ i. slice_get self.new i ≡ Some text.now) }
@@ -130,7 +132,8 @@ impl TextIds {
     }
 
     /// The same, where there is room.
-    fn add(&mut self, alloc: Global, text: &str, hash: usize) -> R<u32>
+    fn add(&mut self, alloc: Global, text: &[u8], hash: usize) -> R<u32>
+        requires utf8 { IsUtf8 text.now }
         requires hash { hash ≡ text_hash text.now }
         requires absent { (i : ℕ) → slice_get self.old i ≡ Some text.now → ⊥ }
         // After an answer.
@@ -143,7 +146,7 @@ impl TextIds {
     {
         let index = next_index(self.texts.len())?;
         self.texts.push(text)?;
-        match self.index.put(alloc, text.as_bytes(), hash, index as u32) {
+        match self.index.put(alloc, text, hash, index as u32) {
             Ok(()) => Ok(index as u32),
             Err(_) => {
                 self.texts.pop();
@@ -253,32 +256,23 @@ impl TextIndex {
     {
         let first = first_place(hash);
         for tried in 0..TRIES {
-            if self.slots.is_free(first + tried) {
+            let slot = self.slots.slot(first + tried);
+            if is_free_slot(slot) {
                 return None;
             }
-            if let Some(number) = self.number_at(texts, text, first + tried) {
+            if let Some(number) = number_in(slot, texts, text) {
                 return Some(number);
             }
         }
-        self.others.get(text).copied()
+        self.other(text)
     }
 
-    /// The number at a place that isn't free, if it is that of the text.
-    #[inline(always)]
-    #[tactic(auto, using(crate::proofs::IndexLemmas::slot_none, crate::proofs::IndexLemmas::slot_some))]
-    fn number_at(&self, texts: &TextList, text: &[u8], place: usize) -> Option<u32>
-        requires { slot_at self.now.slots.numbers.items place ≡ Some 0 → ⊥ }
-        ensures { (later : Option ℕ)
-            → number_of_slot bytes_eq texts.now
-            (slot_at self.now.slots.numbers.items place) later text.now
-            ≡ or_later result later }
+    /// The number of a text whose places others have, if it has one.
+    #[inline(never)]
+    fn other(&self, text: &[u8]) -> Option<u32>
+        ensures { result ≡ list_number_in self.now.others.entries text.now }
     {
-        let number = self.slots.number_at(place)?;
-        if is_text(texts, number, text) {
-            Some(number)
-        } else {
-            None
-        }
+        self.others.get(text).copied()
     }
 
     /// Puts the number of a text at its place.
@@ -302,8 +296,38 @@ impl TextIndex {
         if placed {
             return Ok(());
         }
+        self.put_other(alloc, text, number)?;
+        Ok(())
+    }
+
+    /// The same for a text whose places others have.
+    #[inline(never)]
+    fn put_other(&mut self, alloc: Global, text: &[u8], number: u32) -> Result<(), AllocError>
+        ensures put { OnOk result
+            ((t : List ℕ)
+            → list_number_in self.new.others.entries t
+            ≡ (if bytes_eq text.now t then Some number else list_number_in self.old.others.entries t)) }
+        ensures others { OnErr result (self.new.others.entries ≡ self.old.others.entries) }
+        ensures slots { self.new.slots ≡ self.old.slots }
+    {
         self.others.insert(Vec::from_slice(alloc, text)?, number)?;
         Ok(())
+    }
+}
+
+/// The number in a slot that isn't free, if it is that of the text.
+#[inline(always)]
+#[tactic(auto, using(crate::proofs::IndexLemmas::slot_none, crate::proofs::IndexLemmas::slot_some))]
+fn number_in(slot: Option<u32>, texts: &TextList, text: &[u8]) -> Option<u32>
+    requires { slot ≡ Some 0 → ⊥ }
+    ensures { (later : Option ℕ)
+        → number_of_slot bytes_eq texts.now slot later text.now ≡ or_later result later }
+{
+    let number = number_in_slot(slot)?;
+    if is_text(texts, number, text) {
+        Some(number)
+    } else {
+        None
     }
 }
 
@@ -314,7 +338,7 @@ fn is_text(texts: &TextList, number: u32, text: &[u8]) -> bool
         ≡ (if result then Some number else later) }
 {
     match texts.bytes_of(number as usize) {
-        Some(found) => found == text,
+        Some(found) => same_bytes(found, text),
         None => false,
     }
 }

@@ -100,15 +100,16 @@ impl TextList {
         }
     }
 
-    /// Adds a text.
-    pub fn push(&mut self, text: &str) -> Result<(), AllocError>
+    /// Adds a text, given as bytes.
+    pub fn push(&mut self, text: &[u8]) -> Result<(), AllocError>
+        requires { IsUtf8 text.now }
         ensures added { OnOk result (self.new ≡ self.old ++ text.now ∷ []) }
         ensures same { OnErr result (self.new ≡ self.old) }
     {
         let begin = self.bytes.len();
         let end = place_of(begin + text.len())?;
         self.bounds.reserve(1)?;
-        self.bytes.extend_from_slice(text.as_bytes())?;
+        self.bytes.extend_from_slice(text)?;
         self.bounds.push_reserved(Bounds {
             begin: begin as u32,
             end,
