@@ -1,7 +1,7 @@
 //! Lines in the form in which a catalogue stores them: eight bytes each. The model is the list of
 //! the stored lines. Used by `line_table`.
 
-ghost use Rattle.std.specs.Prelude.{◌≡◌, ◌<◌, ◌++◌, ◌∷◌, [], if◌then◌else◌, is_ok, length, slice_get, IfOk};
+ghost use Rattle.std.specs.Prelude.{◌≡◌, ◌<◌, ◌≤◌, ◌++◌, ◌∷◌, [], if◌then◌else◌, is_ok, length, slice_get, IfOk, OnErr};
 ghost use Rattle.resolvo_catalogue_core.specs.Packed.{line_by, owner_at, unpacked};
 
 use crate::rule::VersionNo;
@@ -81,7 +81,8 @@ fn line_by(kind: u32, owner: VersionNo, number: u32) -> StoredLine
 #[tactic(auto, using(crate::proofs::PackedLemmas::owned_line))]
 fn packed_with(owner: VersionNo, kind: u32, number: u32) -> Result<PackedLine, AllocError>
     requires { kind < 8 }
-    ensures { IfOk result (λ p. unpacked p ≡ line_by kind owner number) }
+    ensures packed { IfOk result (λ p. unpacked p ≡ line_by kind owner number) }
+    ensures full { OnErr result (536870912 ≤ owner.0) }
 {
     if owner.0 >= 536_870_912 {
         return Err(AllocError);
@@ -172,7 +173,8 @@ impl StoredLines {
         ensures items { self.new ≡ (if is_ok result then self.old ++ line ∷ [] else self.old) }
     {
         let packed = line.pack()?;
-        self.packed.push(packed)?;
+        self.packed.reserve(1)?;
+        self.packed.push_reserved(packed);
         Ok(())
     }
 
