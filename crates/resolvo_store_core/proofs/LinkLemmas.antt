@@ -386,11 +386,6 @@ named_at-push [] (suc i) = refl
 named_at-push (f ∷ fs) zero = refl
 named_at-push (f ∷ fs) (suc i) = named_at-push fs i
 
-pub named_at-more : (ls : List ℕ) (o n : ℕ) → n < length ls → named_at (ls ++ o ∷ []) n ≡ named_at ls n
-named_at-more [] o n h = absurd (omega arith)
-named_at-more (l ∷ ls) o zero h = refl
-named_at-more (l ∷ ls) o (suc n) h = named_at-more ls o n (omega arith)
-
 -- links that were added are in no list
 pub added_lists : (fs ls ls' : List ℕ) → AreLinked fs ls → ((n : ℕ) → n < length ls → named_at ls' n ≡ named_at ls n) → length ls ≤ length ls' → AreLists fs ls' (list_in fs ls)
 added_lists fs ls ls' are same longer = record {

@@ -1,5 +1,5 @@
 -- The clauses that watch a literal.
-use Rattle.std.specs.Prelude.{◌≡◌, ℕ, suc, ◌+◌, ◌<◌, ◌==◌, ⊤, Bool, true, false, not, nat_eq, List, [], ◌∷◌, ◌++◌, take, drop, slice_set, slice_get, slice_index_or, length, Option, Some, None}
+use Rattle.std.specs.Prelude.{◌≡◌, ℕ, suc, ◌+◌, ◌*◌, ◌<◌, ◌==◌, ⊤, Bool, true, false, not, nat_eq, List, [], ◌∷◌, ◌++◌, take, drop, slice_set, slice_get, slice_index_or, length, Option, Some, None}
 use Rattle.std.specs.List.{count_by}
 use Rattle.resolvo_pool_core.specs.declared.id.ClauseId.{ClauseId}
 use Rattle.resolvo_store_core.specs.Signed.{Signed, same_literal, index_in}
@@ -34,6 +34,13 @@ watched_count m = count_by (λ n. not (n == 0)) m.firsts.items
 -- the link is there, and in no list
 abbrev pub IsFreeLink : WatchMap → ℕ → Type 0
 IsFreeLink m n = IsUnlinked m.firsts.items m.nexts.items n
+
+-- both literals have their lists, and the clause its two links, which are in no list
+pub record IsReadyFor (m : WatchMap) (p : WatchedLiterals) (c : ClauseId) : Type 0 where
+  pub first : HasPlace m p.first
+  pub second : HasPlace m p.second
+  pub link : IsFreeLink m (c.0 * 2)
+  pub beside : IsFreeLink m (c.0 * 2 + 1)
 
 -- all links are in the lists as before
 abbrev pub SameLinks : WatchMap → WatchMap → Type 0

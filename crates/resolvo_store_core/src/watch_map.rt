@@ -31,6 +31,12 @@ pub struct WatchMap {
 /// Marks a link that was in no list yet.
 const UNLINKED: u32 = u32::MAX;
 
+/// How many links are made beyond those that are asked for.
+const MORE_LINKS: usize = 256;
+
+/// A map has no more links than this.
+const MOST_LINKS: usize = 4_294_967_294;
+
 /// A place in the list of a literal's clauses: the link there, and the one before it.
 #[derive(Clone, Copy, Debug)]
 pub struct WatchMapCursor {
@@ -41,13 +47,13 @@ pub struct WatchMapCursor {
 }
 
 impl WatchMap {
-    ghost use Rattle.std.specs.Prelude.{◌≡◌, ℕ, ◌<◌, ◌≤◌, ◌+◌, ◌++◌, ◌∷◌, [], List, Option, length, slice_get, true, false, Some, drop, OnOk, OnErr, IfOk, IsOk, IsOkUnless, vec_capacity};
+    ghost use Rattle.std.specs.Prelude.{◌≡◌, ℕ, ◌<◌, ◌≤◌, ◌+◌, ◌*◌, ◌++◌, ◌∷◌, [], List, Option, length, slice_get, true, false, Some, drop, OnOk, OnErr, IfOk, IsOk, IsOkUnless, vec_capacity};
     ghost use Rattle.resolvo_pool_core.specs.declared.want.Want.TheVariants.{Memory};
     ghost use Rattle.resolvo_pool_core.specs.declared.id.ClauseId.{ClauseId};
     ghost use Rattle.resolvo_store_core.specs.Signed.{Signed, same_literal};
     ghost use Rattle.resolvo_store_core.specs.declared.watched_literals.WatchedLiterals.{WatchedLiterals};
     ghost use Rattle.resolvo_store_core.specs.Links.{clause_of, IsPlaced};
-    ghost use Rattle.resolvo_store_core.specs.Watches.{HasPlace, HasRoom, links, watchers, watched_count, IsFreeLink, IsAt, IsWatched, StartsIn, PutsFirst, TakesOut, SameLists, SameLinks};
+    ghost use Rattle.resolvo_store_core.specs.Watches.{HasPlace, HasRoom, IsReadyFor, links, watchers, watched_count, IsFreeLink, IsAt, IsWatched, StartsIn, PutsFirst, TakesOut, SameLists, SameLinks};
     ghost use Rattle.resolvo_store_core.specs.Walk.{pairs_after, lists_after, first_target};
 
     /// A map in which no clause watches a literal.
@@ -82,11 +88,56 @@ impl WatchMap {
         ensures err { OnErr result (SameLists (watchers self.old) (watchers self.new)) }
         ensures refusal { IsOkUnless result Memory }
     {
-        self.reserve(watched.first)?;
-        self.reserve(watched.second)?;
-        let link = self.add_links(clause)?;
+        if self.is_ready(&watched, clause) {
+            self.start_ready(watched, clause);
+            return Ok(());
+        }
+        self.start_new(watched, clause)
+    }
+
+    /// Whether both literals have their lists, and the clause its two links, which are in no list.
+    #[inline(always)]
+    fn is_ready(&self, watched: &WatchedLiterals, clause: ClauseId) -> bool
+        ensures { result ≡ true → IsReadyFor self.now watched.now clause }
+    {
+        let link = clause.to_index() * 2;
+        if link + 1 >= self.nexts.len() {
+            return false;
+        }
+        if watched.first.to_index() >= self.firsts.len() {
+            return false;
+        }
+        if watched.second.to_index() >= self.firsts.len() {
+            return false;
+        }
+        self.is_unlinked(link) && self.is_unlinked(link + 1)
+    }
+
+    /// Puts a clause at the front of the lists of its two literals, where all of this is there.
+    #[inline(always)]
+    fn start_ready(&mut self, watched: WatchedLiterals, clause: ClauseId)
+        requires differ { same_literal watched.first watched.second ≡ false }
+        requires ready { IsReadyFor self.old watched clause }
+        ensures { StartsIn clause watched (watchers self.old) (watchers self.new) }
+    {
+        let link = clause.0 * 2;
         self.link_first(watched.first, link);
         self.link_first(watched.second, link + 1);
+    }
+
+    /// The same where the lists or the links may be yet to be made.
+    #[inline(never)]
+    fn start_new(&mut self, watched: WatchedLiterals, clause: ClauseId) -> R<()>
+        requires { same_literal watched.first watched.second ≡ false }
+        ensures started { OnOk result (StartsIn clause watched (watchers self.old)
+            (watchers self.new)) }
+        ensures err { OnErr result (SameLists (watchers self.old) (watchers self.new)) }
+        ensures refusal { IsOkUnless result Memory }
+    {
+        self.reserve(watched.first)?;
+        self.reserve(watched.second)?;
+        self.add_links(clause)?;
+        self.start_ready(watched, clause);
         Ok(())
     }
 
@@ -236,14 +287,12 @@ impl WatchMap {
         }
     }
 
-    /// The first of a clause's two links, which are in no list. A map has links for fewer than
-    /// 2^31 - 1 clauses. It refuses one more as it does for want of memory, and one that watches
-    /// already.
-    fn add_links(&mut self, clause: ClauseId) -> R<u32>
+    /// Makes a clause's two links, which are in no list. A map has links for fewer than 2^31 - 1
+    /// clauses. It refuses one more as it does for want of memory, and one that watches already.
+    fn add_links(&mut self, clause: ClauseId) -> R<()>
         ensures same { SameLists (watchers self.old) (watchers self.new) }
-        ensures first { IfOk result (λ n. IsFreeLink self.new n × (clause_of n ≡ clause)) }
-        ensures second { IfOk result
-            (λ n. IsFreeLink self.new (n + 1) × (clause_of (n + 1) ≡ clause)) }
+        ensures first { OnOk result (IsFreeLink self.new (clause.0 * 2)) }
+        ensures second { OnOk result (IsFreeLink self.new (clause.0 * 2 + 1)) }
         ensures room { (l : Signed) → HasPlace self.old l → HasPlace self.new l }
         ensures refusal { IsOkUnless result Memory }
     {
@@ -253,12 +302,12 @@ impl WatchMap {
         }
         self.reserve_links(link + 2)?;
         if self.is_unlinked(link) && self.is_unlinked(link + 1) {
-            return Ok(link as u32);
+            return Ok(());
         }
         Err(Want::Memory)
     }
 
-    /// Makes so many links. Those that are added are in no list.
+    /// Makes so many links, and some more. Those that are added are in no list.
     fn reserve_links(&mut self, count: usize) -> R<()>
         requires { count ≤ 4294967294 }
         ensures same { SameLists (watchers self.old) (watchers self.new) }
@@ -266,8 +315,9 @@ impl WatchMap {
         ensures room { (l : Signed) → HasPlace self.old l → HasPlace self.new l }
         ensures refusal { IsOkUnless result Memory }
     {
-        while self.nexts.len() < count {
-            self.nexts.push(UNLINKED)?;
+        if self.nexts.len() < count {
+            let wanted = (count + MORE_LINKS).min(MOST_LINKS);
+            self.nexts.resize(wanted, UNLINKED)?;
         }
         Ok(())
     }

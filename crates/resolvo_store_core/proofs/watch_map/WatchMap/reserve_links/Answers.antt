@@ -1,27 +1,34 @@
-use Rattle.std.proofs.Common.{◌≡◌, ◌≤◌, ◌+◌, ℕ, true, false, List, [], ◌∷◌, ◌++◌, cond, length, length-append, is_ok, refl, sym, ap, subst, arith}
-use Rattle.resolvo_store_core.specs.Links.{AreLinked}
-use Rattle.resolvo_store_core.proofs.LinkLemmas.{linked, added_lists, named_at-more}
+use Rattle.std.proofs.Common.{◌≡◌, ◌≤◌, ℕ, true, false, Bool, cond, length, vec_len, is_ok, refl, ap, arith}
+use Rattle.resolvo_store_core.specs.Links.{link_of}
+use Rattle.resolvo_store_core.proofs.LinkLemmas.{linked, added_lists}
 use Rattle.resolvo_store_core.proofs.WatchLemmas.{same_added}
 use Rattle.resolvo_store_core.proofs.watch_map.WatchMap.reserve_links.Goals as goal
 
+-- the length of a list that grew, or stayed
+grown : (b : Bool) (len wanted n : ℕ) → n ≡ cond b wanted len → len ≤ wanted → wanted ≤ 4294967294 → (len ≤ n) × (n ≤ 4294967294)
+grown true len wanted n e more few = (omega arith, omega arith)
+grown false len wanted n e more few = (omega arith, omega arith)
+
 pub invariant_of-self : goal.invariant_of-self
-invariant_of-self c = record {
-  linked = subst (λ (ls : List ℕ). AreLinked c.loop-self.self.firsts.items ls) (sym c.push.ensures.items) (go (is_ok c.push.result));
-  few = subst (λ (ls : List ℕ). length ls ≤ 4294967294) (sym c.push.ensures.items) (few (is_ok c.push.result));
-}
-  where
-    go : (b : _) → AreLinked c.loop-self.self.firsts.items (cond b (c.loop-self.self.nexts.items ++ 4294967295 ∷ []) c.loop-self.self.nexts.items)
-    go true =
-        let e : length (c.loop-self.self.nexts.items ++ 4294967295 ∷ []) ≡ length c.loop-self.self.nexts.items + 1 = length-append c.loop-self.self.nexts.items (4294967295 ∷ []) in
-        linked _ _ _ (added_lists c.loop-self.self.firsts.items c.loop-self.self.nexts.items (c.loop-self.self.nexts.items ++ 4294967295 ∷ []) c.loop-self.self.linked (λ n h. named_at-more c.loop-self.self.nexts.items 4294967295 n h) (omega arith))
-    go false = c.loop-self.self.linked
+invariant_of-self c =
+    let s = c.args.self.now in
+    let wanted = c.min-wanted.ensures in
+    let size : vec_len s.nexts ≡ length s.nexts.items = s.nexts.ok.0 in
+    let size' : vec_len c.resize.new.self ≡ length c.resize.new.self.items = c.resize.new.self.ok.0 in
+    let bounds = grown (is_ok c.resize.result) (vec_len s.nexts) c.min-wanted.result (vec_len c.resize.new.self) c.resize.ensures.len (omega arith) (omega arith) in
+    let longer : vec_len s.nexts ≤ vec_len c.resize.new.self = bounds.0 in
+    let few : vec_len c.resize.new.self ≤ 4294967294 = bounds.1 in
+    record {
+      linked = linked _ _ _ (added_lists s.firsts.items s.nexts.items c.resize.new.self.items s.linked (λ n h. ap link_of (c.resize.ensures.by_index.0 n 0 (omega arith) (omega arith))) (omega arith));
+      few = omega arith;
+    }
 
-    few : (b : _) → length (cond b (c.loop-self.self.nexts.items ++ 4294967295 ∷ []) c.loop-self.self.nexts.items) ≤ 4294967294
-    few true = omega (arith, c.loop-self-test.true, c.loop-self.self.nexts.ok, c.len.ensures, c.requires, length-append c.loop-self.self.nexts.items (4294967295 ∷ []))
-    few false = c.loop-self.self.few
-
-pub returns-in_err-push-clause-same : goal.returns-in_err-push-clause-same
-returns-in_err-push-clause-same c = same_added c.args.self.now _ _ _ (ap (λ v. v.items) c.loop-self.invariant.firsts) c.in_err-push.ensures.items c.loop-self.invariant.nexts c.loop-self.invariant.longer
-
-pub returns-clause-same : goal.returns-clause-same
-returns-clause-same c = same_added c.args.self.now _ _ _ (ap (λ v. v.items) c.loop-self.invariant.firsts) refl c.loop-self.invariant.nexts c.loop-self.invariant.longer
+pub returns-in_ok-resize-clause-same : goal.returns-in_ok-resize-clause-same
+returns-in_ok-resize-clause-same c =
+    let s = c.args.self.now in
+    let wanted = c.min-wanted.ensures in
+    let size : vec_len s.nexts ≡ length s.nexts.items = s.nexts.ok.0 in
+    let size' : vec_len c.resize.new.self ≡ length c.resize.new.self.items = c.resize.new.self.ok.0 in
+    let bounds = grown (is_ok c.resize.result) (vec_len s.nexts) c.min-wanted.result (vec_len c.resize.new.self) c.resize.ensures.len (omega arith) (omega arith) in
+    let longer : vec_len s.nexts ≤ vec_len c.resize.new.self = bounds.0 in
+    same_added s _ _ _ refl refl (λ n h. ap link_of (c.resize.ensures.by_index.0 n 0 (omega arith) (omega arith))) (omega arith)
