@@ -17,6 +17,7 @@ use resolvo_pool_core::id::ClauseId;
 use resolvo_pool_core::want::R;
 use resolvo_store_core::literal::Literal;
 use resolvo_store_core::watched_literals::WatchedLiterals;
+use resolvo_store_core::watched_pair::WatchedPair;
 
 impl SatState {
     /// Adds a clause: a rule, or one that follows from its antecedents. It watches two of its
@@ -182,11 +183,12 @@ impl WatchLists {
         if let Some(WatchedLiterals { first, second }) = watched {
             self.watches
                 .start_watching(WatchedLiterals { first, second }, unit.clause)?;
-            self.watched.push(Some(WatchedLiterals { first, second }))?;
+            self.watched
+                .push(WatchedPair::of(Some(WatchedLiterals { first, second })))?;
             return Ok(());
         }
         self.add_unit(unit, is_rule)?;
-        self.watched.push(None)?;
+        self.watched.push(WatchedPair::of(None))?;
         Ok(())
     }
 

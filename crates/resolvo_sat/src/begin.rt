@@ -17,6 +17,7 @@ use resolvo_store_core::decision::Decision;
 use resolvo_store_core::decision_tracker::DecisionTracker;
 use resolvo_store_core::literal::Literal;
 use resolvo_store_core::watch_map::WatchMap;
+use resolvo_store_core::watched_pair::WatchedPair;
 use std::alloc::Global;
 
 /// The initial state of the search. The first clause asserts the root, which is the first variable
@@ -37,7 +38,7 @@ pub fn begin(alloc: Global) -> R<(SatState, WatchLists)>
         1,
     )?;
     let mut watched = Vec::new(alloc);
-    watched.push(None)?;
+    watched.push(WatchedPair::of(None))?;
     let state = SatState {
         variables,
         clauses: root_clause(alloc)?,

@@ -133,7 +133,13 @@ impl SatState {
         let passed = watching.passed_of(clause);
         match self.free_literal(clause, &watched, passed) {
             Some(to) => {
-                cursor.update(&mut watching.watches, watching.watched.as_mut_slice(), to)?;
+                cursor.update_pair(
+                    &mut watching.watches,
+                    watching.watched.as_mut_slice(),
+                    clause,
+                    watched,
+                    to,
+                )?;
                 self.note_passed(watching, clause)?;
                 Ok(WatchVisit::Moved)
             }

@@ -10,6 +10,7 @@ use resolvo_pool_core::want::R;
 use resolvo_store_core::literal::Literal;
 use resolvo_store_core::watch_map::{WatchMap, WatchMapCursor};
 use resolvo_store_core::watched_literals::WatchedLiterals;
+use resolvo_store_core::watched_pair::WatchedPair;
 
 /// A unit clause.
 #[derive(Clone, Copy, Debug)]
@@ -40,7 +41,7 @@ pub struct UnitsDone {
 /// (rules and learnt ones), and the pending clauses.
 #[derive(Drop)]
 pub struct WatchLists {
-    pub watched: Vec<Option<WatchedLiterals>>,
+    pub watched: Vec<WatchedPair>,
     pub watches: WatchMap,
     pub assertions: Vec<UnitClause>,
     pub learnt: Vec<UnitClause>,
@@ -81,7 +82,7 @@ impl WatchLists {
     {
         let index = clause.to_index();
         if index < self.watched.len() {
-            self.watched[index]
+            self.watched[index].get()
         } else {
             None
         }

@@ -1,5 +1,5 @@
 -- Lemmas on lists of clauses.
-use Rattle.std.proofs.Common.{◌≡◌, ℕ, zero, suc, ◌+◌, ◌<◌, ◌≤◌, List, [], ◌∷◌, ◌++◌, take, drop, length, Some, None, refl, ap, arith, eqb, eq-eqb}
+use Rattle.std.proofs.Common.{◌≡◌, ℕ, zero, suc, ◌+◌, ◌<◌, ◌≤◌, List, [], ◌∷◌, ◌++◌, take, drop, length, Some, None, refl, sym, ◌∙◌, ap, arith, eqb, eq-eqb}
 use Rattle.std.specs.Prelude.{slice_get}
 use Rattle.std.proofs.lemmas.List.{drop_at, length-take-le}
 use Rattle.resolvo_pool_core.specs.declared.id.ClauseId.{ClauseId}
@@ -52,10 +52,15 @@ pub drop_taken : (xs : List ClauseId) (place : ℕ) → place < length xs → dr
 drop_taken xs place h = drop_at (take place xs) (drop (suc place) xs) place (length-take-le place xs (omega arith))
 
 -- there is a clause at each place of a list
+pub clause_within : (xs : List ClauseId) (place : ℕ) → place < length xs → (c : ClauseId) × (slice_get xs place ≡ Some c)
+clause_within [] place h = absurd (omega arith)
+clause_within (x ∷ xs) zero h = (x, refl)
+clause_within (x ∷ xs) (suc place) h = clause_within xs place (omega arith)
+
 pub some_within : (xs : List ClauseId) (place : ℕ) → place < length xs → slice_get xs place ≡ None → ⊥
-some_within [] place h e = absurd (omega arith)
-some_within (x ∷ xs) zero h e = cc
-some_within (x ∷ xs) (suc place) h e = some_within xs place (omega arith) e
+some_within xs place h e =
+    let both : Some (clause_within xs place h).0 ≡ None = sym (clause_within xs place h).1 ∙ e in
+    cc
 
 pub get_past : (xs : List ClauseId) (place : ℕ) → length xs ≤ place → slice_get xs place ≡ None
 get_past [] place h = refl

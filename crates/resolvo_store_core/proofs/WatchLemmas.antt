@@ -29,10 +29,6 @@ map_none f [] a e = refl
 map_none f (x ∷ xs) zero e = cc
 map_none f (x ∷ xs) (suc a) e = map_none f xs a e
 
--- where all links are in the lists as before, so are the clauses
-pub same_watchers : (old : WatchMap) (fs' ls' : List ℕ) → KeepsLinks old.firsts.items old.nexts.items fs' ls' → SameLists (watchers old) (watchers_in fs' ls')
-same_watchers old fs' ls' same l = ap (map clause_of) (same.lists (index_in l))
-
 other_index : (l m : Signed) → same_literal l m ≡ false → eqb (index_in l) (index_in m) ≡ false
 other_index l m d = ne_eqb (index_in l) (index_in m) (index_differs l m d)
 
@@ -153,18 +149,6 @@ taken_at old fs' ls' k n o are at is next =
     before zero = refl
     before (suc q) = taken_before (links old k.literal) (suc q) q (omega arith)
 
--- a clause that was inserted first into two lists
-pub starts_in : (c : ClauseId) (p : WatchedLiterals) (a b d : Signed → List ClauseId) → same_literal p.first p.second ≡ false → PutsFirst c p.first a b → PutsFirst c p.second b d → StartsIn c p a d
-starts_in c p a b d differ one two = record {
-  first = two.others p.first (differs_sym p.first p.second differ) ∙ one.put;
-  second = two.put ∙ ap (λ (xs : List ClauseId). c ∷ xs) (one.others p.second differ);
-  others = λ l n. two.others l (both_false _ _ n).1 ∙ one.others l (both_false _ _ n).0;
-}
-
--- a clause that was inserted first after calls that changed no list
-pub put_same : (c : ClauseId) (l : Signed) (a a' b : Signed → List ClauseId) → SameLists a a' → PutsFirst c l a' b → PutsFirst c l a b
-put_same c l a a' b same put = record { put = put.put ∙ ap (λ (xs : List ClauseId). c ∷ xs) (same l); others = λ m d. put.others m d ∙ same m }
-
 pub moved_between : (c : ClauseId) (from to : Signed) (place : ℕ) (a b d : Signed → List ClauseId) → same_literal from to ≡ false → slice_get (a from) place ≡ Some c → TakesOut from place a b → PutsFirst c to b d → MovesIn c from place to a d
 moved_between c from to place a b d apart was_in out put = record {
   was_in = was_in;
@@ -187,21 +171,18 @@ apart_from c from to place pairs a fit was_in free =
     not_same_watch found.0 from to found.2 (subst (λ (o : Option WatchedLiterals). watches o to ≡ false) found.1 free)
 
 -- the clause at the cursor watches the other literal now
-pub updated : (c : ClauseId) (p : WatchedLiterals) (from to : Signed) (place : ℕ) (pairs new_pairs : List (Option WatchedLiterals)) (a b d : Signed → List ClauseId)
-    → IsWatched pairs a → slice_get (a from) place ≡ Some c → pair_at pairs c.0 ≡ Some p → watches (pair_at pairs c.0) to ≡ false → TakesOut from place a b → PutsFirst c to b d → new_pairs ≡ slice_set pairs c.0 (Some (moved_pair p from to)) → Moves from place to pairs new_pairs a d
-updated c p from to place pairs new_pairs a b d fit was_in is free out put wrote =
-    let found = pair_of_watcher pairs a from place c fit was_in in
+pub updated : (c : ClauseId) (p : WatchedLiterals) (from to : Signed) (place : ℕ) (pairs new_pairs : List (Option WatchedLiterals)) (a d : Signed → List ClauseId)
+    → IsWatched pairs a → pair_at pairs c.0 ≡ Some p → watches (Some p) to ≡ false → MovesIn c from place to a d → new_pairs ≡ slice_set pairs c.0 (Some (moved_pair p from to)) → Moves from place to pairs new_pairs a d
+updated c p from to place pairs new_pairs a d fit is free lists wrote =
+    let found = pair_of_watcher pairs a from place c fit lists.was_in in
     let both : Some found.0 ≡ Some p = sym found.1 ∙ is in
     let same : found.0 ≡ p = cc in
     let watching : watches (Some p) from ≡ true = subst (λ (x : WatchedLiterals). watches (Some x) from ≡ true) same found.2 in
-    let not_to : watches (Some p) to ≡ false = subst (λ (o : Option WatchedLiterals). watches o to ≡ false) is free in
-    let apart : same_literal from to ≡ false = not_same_watch p from to watching not_to in
-    let lists : MovesIn c from place to a d = moved_between c from to place a b d apart was_in out put in
     record {
       clause = c;
       pair = p;
       watched = is;
       pairs = wrote;
       lists = lists;
-      fit = subst (λ (ps : List (Option WatchedLiterals)). IsWatched ps d) (sym wrote) (moved_well pairs a d c p from place to fit is watching not_to lists);
+      fit = subst (λ (ps : List (Option WatchedLiterals)). IsWatched ps d) (sym wrote) (moved_well pairs a d c p from place to fit is watching free lists);
     }

@@ -121,7 +121,7 @@ moved_other p from to l w a b = go (same_literal p.first from) refl
         let is : p.second ≡ from = first_watched p from w e in
         ap (λ x. same_literal p.first l || x) (b ∙ sym (subst (λ (m : Signed). same_literal m l ≡ false) (sym is) a))
 
-moved_differ : (p : WatchedLiterals) (from to : Signed) → watches (Some p) to ≡ false → same_literal (moved_pair p from to).first (moved_pair p from to).second ≡ false
+pub moved_differ : (p : WatchedLiterals) (from to : Signed) → watches (Some p) to ≡ false → same_literal (moved_pair p from to).first (moved_pair p from to).second ≡ false
 moved_differ p from to n = go (same_literal p.first from)
   where
     go : (x : Bool) → same_literal (cond x (record p { first = to }) (record p { second = to })).first (cond x (record p { first = to }) (record p { second = to })).second ≡ false

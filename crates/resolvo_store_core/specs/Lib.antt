@@ -4,6 +4,7 @@ pub mod Clauses
 pub mod Links
 pub mod Lists
 pub mod Places
+pub mod PairLaws
 pub mod Pairs
 pub mod ReadClause
 pub mod SignLaws

@@ -18,3 +18,4 @@ mod small_set;
 pub mod store_clause;
 pub mod watch_map;
 pub mod watched_literals;
+pub mod watched_pair;

@@ -12,6 +12,7 @@ ghost use Rattle.resolvo_store_core.specs.Links.{AreLinked, link_of, clause_of};
 
 use crate::literal::Literal;
 use crate::watched_literals::{Watch, WatchedLiterals};
+use crate::watched_pair::WatchedPair;
 use resolvo_pool_core::id::{ClauseId, DenseIndex};
 use resolvo_pool_core::want::{R, Want};
 use std::alloc::Global;
@@ -373,12 +374,12 @@ impl WatchMap {
 }
 
 impl WatchMapCursor {
-    ghost use Rattle.std.specs.Prelude.{◌≡◌, ◌<◌, ◌+◌, Option, length, slice_get, false, Some, OnOk, OnErr, IfSome, IsOk, IsOkUnless};
+    ghost use Rattle.std.specs.Prelude.{◌≡◌, ◌<◌, ◌+◌, Option, length, slice_get, false, Some, OnOk, OnErr, IfOk, IfSome, IsOk, IsOkUnless};
     ghost use Rattle.resolvo_pool_core.specs.declared.want.Want.TheVariants.{Memory};
     ghost use Rattle.resolvo_pool_core.specs.declared.id.ClauseId.{ClauseId};
-    ghost use Rattle.resolvo_store_core.specs.Signed.{Signed};
+    ghost use Rattle.resolvo_store_core.specs.Signed.{Signed, same_literal};
     ghost use Rattle.resolvo_store_core.specs.Pairs.{watches, side_of};
-    ghost use Rattle.resolvo_store_core.specs.Watches.{HasPlace, watchers, pair_at, IsAt, IsWatched, Moves, SameLists};
+    ghost use Rattle.resolvo_store_core.specs.Watches.{HasPlace, watchers, pair_at, IsAt, IsWatched, Moves, MovesIn, SameLists};
     ghost use Rattle.resolvo_store_core.specs.Walk.{new_watch};
 
     /// The clause at the cursor, or none at the end of the list.
@@ -487,13 +488,66 @@ impl WatchMapCursor {
         ensures refusal { IsOkUnless result Memory }
     {
         let watched = self.watched_literals(map, clauses);
+        let clause = self.relink(map, to)?;
+        clauses[clause.to_index()] = Some(watched.moved(self.literal, to));
+        Ok(())
+    }
+
+    /// The same, where these are the clause at the cursor and its watched literals.
+    #[inline(always)]
+    pub fn update_pair(
+        &mut self,
+        map: &mut WatchMap,
+        clauses: &mut [WatchedPair],
+        clause: ClauseId,
+        watched: WatchedLiterals,
+        to: Literal,
+    ) -> R<()>
+        requires fit { IsWatched clauses.old (watchers map.old) }
+        requires at { IsAt map.old self.old }
+        requires present { slice_get (watchers map.old self.old.literal) self.old.place
+            ≡ Some clause }
+        requires pair { pair_at clauses.old clause.0 ≡ Some watched }
+        requires free { watches (Some watched) to ≡ false }
+        // What the call promises.
+        ensures moved { OnOk result
+            (Moves self.old.literal self.old.place to clauses.old clauses.new (watchers map.old)
+            (watchers map.new)) }
+        ensures literal { self.new.literal ≡ self.old.literal }
+        ensures place { self.new.place ≡ self.old.place }
+        ensures at { IsAt map.new self.new }
+        // After a refusal.
+        ensures refusal { IsOkUnless result Memory }
+    {
+        self.relink(map, to)?;
+        clauses[clause.to_index()] = WatchedPair::of(Some(watched.moved(self.literal, to)));
+        Ok(())
+    }
+
+    /// Puts the clause at the cursor at the front of another literal's list, in place of this one's.
+    fn relink(&mut self, map: &mut WatchMap, to: Literal) -> R<ClauseId>
+        requires at { IsAt map.old self.old }
+        requires in_list { self.old.place < length (watchers map.old self.old.literal) }
+        requires apart { same_literal self.old.literal to ≡ false }
+        // What the call promises.
+        ensures moved { IfOk result
+            (λ c. MovesIn c self.old.literal self.old.place to (watchers map.old)
+            (watchers map.new)) }
+        ensures literal { self.new.literal ≡ self.old.literal }
+        ensures place { self.new.place ≡ self.old.place }
+        ensures at { IsAt map.new self.new }
+        ensures err { OnErr result (SameLists (watchers map.old) (watchers map.new)) }
+        ensures room { (l : Signed) → HasPlace map.old l → HasPlace map.new l }
+        ensures succeeds { HasPlace map.old to → IsOk result }
+        // After a refusal.
+        ensures refusal { IsOkUnless result Memory }
+    {
         map.reserve(to)?;
         match self.current {
             Some(link) => {
                 self.current = map.take_out(self);
                 map.link_first(to, link);
-                clauses[clause_at(link).to_index()] = Some(watched.moved(self.literal, to));
-                Ok(())
+                Ok(clause_at(link))
             }
             None => unreachable!(),
         }
