@@ -1,6 +1,6 @@
 //! The clauses of the solver. Their literals lie one after the other in one list, and so do their
 //! causes. The model is the list of clauses, in which a clause's position is its number.
-ghost use Rattle.std.specs.Prelude.{◌≡◌, ◌<◌, ◌≤◌, ◌-◌, [], ◌∷◌, ◌++◌, if◌then◌else◌, ℕ, is_ok, IfOk, OnOk, OnErr, IsErrOf, IsOkUnless, length, slice_index_or};
+ghost use Rattle.std.specs.Prelude.{◌≡◌, ◌<◌, ◌≤◌, ◌-◌, [], ◌∷◌, ◌++◌, if◌then◌else◌, ℕ, is_ok, take, IfOk, OnOk, OnErr, IsErrOf, IsOkUnless, length, slice_index_or};
 ghost use Rattle.resolvo_pool_core.specs.declared.want.Want.TheVariants.{Ids, Memory};
 ghost use Rattle.resolvo_sat.specs.Clauses.{sat_clause, causes_at, AreNumbered, IsPlaceOf};
 ghost use Rattle.resolvo_sat.specs.Known.{clause_at};
@@ -157,25 +157,18 @@ fn begin_of(ends: &[u32], number: usize) -> u32
     if number == 0 { 0 } else { ends[number - 1] }
 }
 
-/// Appends a clause's literals, and where they end; or nothing.
-fn append(literals: &mut Vec<Literal>, ends: &mut Vec<u32>, more: &[Literal]) -> R<()>
-    ensures literals { OnOk result (literals.new.items ≡ literals.old.items ++ more.now) }
+/// Appends what is of a clause, and where it ends; or nothing.
+fn append<T: Copy>(items: &mut Vec<T>, ends: &mut Vec<u32>, more: &[T]) -> R<()>
+    ensures items { OnOk result (items.new.items ≡ items.old.items ++ more.now) }
     ensures ends { OnOk result
-        (ends.new.items ≡ ends.old.items ++ length literals.new.items ∷ []) }
-    ensures err_literals { OnErr result (literals.new.items ≡ literals.old.items) }
+        (ends.new.items ≡ ends.old.items ++ length items.new.items ∷ []) }
+    ensures err_items { OnErr result (items.new.items ≡ items.old.items) }
     ensures err_ends { OnErr result (ends.new.items ≡ ends.old.items) }
     ensures refusal { IsOkUnless result Memory }
 {
-    let begin = literals.len();
-    literals.extend_from_slice(more)?;
-    let end = literals.len();
-    match push_end(ends, end) {
-        Ok(()) => Ok(()),
-        Err(want) => {
-            literals.truncate(begin);
-            Err(want)
-        }
-    }
+    let begin = items.len();
+    items.extend_from_slice(more)?;
+    append_end(items, ends, begin)
 }
 
 /// Appends a rule's two literals, and where they end; or nothing.
@@ -196,14 +189,7 @@ fn append_pair(
 {
     let begin = literals.len();
     append_two(literals, first, second)?;
-    let end = literals.len();
-    match push_end(ends, end) {
-        Ok(()) => Ok(()),
-        Err(want) => {
-            literals.truncate(begin);
-            Err(want)
-        }
-    }
+    append_end(literals, ends, begin)
 }
 
 /// Appends two literals, or none.
@@ -218,6 +204,27 @@ fn append_two(items: &mut Vec<Literal>, first: Literal, second: Literal) -> Resu
         Err(error) => {
             items.pop();
             Err(error.into())
+        }
+    }
+}
+
+/// Appends where the last clause's items end; or drops those from `begin` on.
+#[inline(always)]
+fn append_end<T: Copy>(items: &mut Vec<T>, ends: &mut Vec<u32>, begin: usize) -> R<()>
+    requires { begin ≤ length items.old.items }
+    ensures items { OnOk result (items.new.items ≡ items.old.items) }
+    ensures ends { OnOk result
+        (ends.new.items ≡ ends.old.items ++ length items.old.items ∷ []) }
+    ensures err_items { OnErr result (items.new.items ≡ take begin items.old.items) }
+    ensures err_ends { OnErr result (ends.new.items ≡ ends.old.items) }
+    ensures refusal { IsOkUnless result Memory }
+{
+    let end = items.len();
+    match push_end(ends, end) {
+        Ok(()) => Ok(()),
+        Err(want) => {
+            items.truncate(begin);
+            Err(want)
         }
     }
 }
@@ -250,59 +257,16 @@ fn append_caused(
 {
     let begin = literals.len();
     let number = ends.len();
+    caused.reserve(1)?;
     append(literals, ends, more)?;
-    match append_causes(causes, caused, cause_ends, number as u32, others) {
-        Ok(()) => Ok(()),
+    match append(causes, cause_ends, others) {
+        Ok(()) => {
+            caused.push(number as u32).unwrap();
+            Ok(())
+        }
         Err(want) => {
             literals.truncate(begin);
             ends.truncate(number);
-            Err(want)
-        }
-    }
-}
-
-/// Appends a clause's causes, its number, and where its causes end; or nothing.
-fn append_causes(
-    causes: &mut Vec<ClauseId>,
-    caused: &mut Vec<u32>,
-    ends: &mut Vec<u32>,
-    number: u32,
-    more: &[ClauseId],
-) -> R<()>
-    ensures causes { OnOk result (causes.new.items ≡ causes.old.items ++ more.now) }
-    ensures caused { OnOk result (caused.new.items ≡ caused.old.items ++ number ∷ []) }
-    ensures ends { OnOk result
-        (ends.new.items ≡ ends.old.items ++ length causes.new.items ∷ []) }
-    ensures err_causes { OnErr result (causes.new.items ≡ causes.old.items) }
-    ensures err_caused { OnErr result (caused.new.items ≡ caused.old.items) }
-    ensures err_ends { OnErr result (ends.new.items ≡ ends.old.items) }
-    ensures refusal { IsOkUnless result Memory }
-{
-    let begin = causes.len();
-    causes.extend_from_slice(more)?;
-    let end = causes.len();
-    match push_numbers(caused, ends, number, end) {
-        Ok(()) => Ok(()),
-        Err(want) => {
-            causes.truncate(begin);
-            Err(want)
-        }
-    }
-}
-
-/// Appends the number of a clause with causes, and where these end; or nothing.
-fn push_numbers(caused: &mut Vec<u32>, ends: &mut Vec<u32>, number: u32, end: usize) -> R<()>
-    ensures caused { OnOk result (caused.new.items ≡ caused.old.items ++ number ∷ []) }
-    ensures ends { OnOk result (ends.new.items ≡ ends.old.items ++ end ∷ []) }
-    ensures err_caused { OnErr result (caused.new.items ≡ caused.old.items) }
-    ensures err_ends { OnErr result (ends.new.items ≡ ends.old.items) }
-    ensures refusal { IsOkUnless result Memory }
-{
-    caused.push(number)?;
-    match push_end(ends, end) {
-        Ok(()) => Ok(()),
-        Err(want) => {
-            caused.pop();
             Err(want)
         }
     }

@@ -8,15 +8,15 @@ pub invariant_of-self-2 : goal.invariant_of-self-2
 invariant_of-self-2 c =
     let inside = c.self.inside in
     let few : length inside.ends.items < 4294967295 = omega (arith, c.len.ensures, inside.ends.ok.0, c.in_ok-number.ensures.index.0, c.in_ok-number.ensures.index.1) in
-    rule_ends c.args.literals.now inside.literals.items c.append.new.literals.items inside.causes.items inside.ends.items c.append.new.ends.items inside.caused.items inside.cause_ends.items c.self.invariant
-    c.in_ok-append.ensures.literals c.in_ok-append.ensures.ends few
+    rule_ends c.args.literals.now inside.literals.items c.append.new.items.items inside.causes.items inside.ends.items c.append.new.ends.items inside.caused.items inside.cause_ends.items c.self.invariant
+    c.in_ok-append.ensures.items c.in_ok-append.ensures.ends few
 
 pub returns-clause-put : goal.returns-clause-put
 returns-clause-put c =
     let inside = c.self.inside in
     rw (← c.self.view_is)
-    (rule_pushed c.args.literals.now inside.literals.items c.append.new.literals.items inside.causes.items inside.ends.items c.append.new.ends.items inside.caused.items inside.cause_ends.items c.self.invariant
-    c.in_ok-append.ensures.literals c.in_ok-append.ensures.ends)
+    (rule_pushed c.args.literals.now inside.literals.items c.append.new.items.items inside.causes.items inside.ends.items c.append.new.ends.items inside.caused.items inside.cause_ends.items c.self.invariant
+    c.in_ok-append.ensures.items c.in_ok-append.ensures.ends)
 
 pub returns-clause-id : goal.returns-clause-id
 returns-clause-id c =
