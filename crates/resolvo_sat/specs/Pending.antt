@@ -14,6 +14,10 @@ use Rattle.resolvo_sat.specs.Propagation.{IsReady, IsGuard, GuardsTo, IsPending,
 abbrev pub AreFalseBut : Signed → List Signed → List Signed → Type 0
 AreFalseBut l known clause = (m : Signed) → has clause m ≡ true → (m ≡ l) ⊎ (has known (negation m) ≡ true)
 
+-- each literal of the clause is false
+abbrev pub AreFalse : List Signed → List Signed → Type 0
+AreFalse known clause = (m : Signed) → has clause m ≡ true → has known (negation m) ≡ true
+
 -- neither of the two is false
 pub record AreOpen (known : List Signed) (p : WatchedLiterals) : Type 0 where
   pub first : has known (negation p.first) ≡ false

@@ -1,9 +1,9 @@
 //! Adds a rule. Most rules have two literals, which differ. Such a one watches both, so its literals,
 //! its two links and its watches are all that is written. What is done beside a false literal, or
 //! while something is noted, is a call of its own.
-ghost use Rattle.std.specs.Prelude.{◌≡◌, ◌<◌, [], ◌∷◌, length, true, false, IfOk, IfSome, IsErrOf, IsOkUnless};
+ghost use Rattle.std.specs.Prelude.{◌≡◌, ◌<◌, [], ◌∷◌, length, vec_len, true, false, IfOk, IfSome, IsErrOf, IsOkUnless};
 ghost use Rattle.resolvo_pool_core.specs.declared.want.Want.TheVariants.{Memory, Ids};
-ghost use Rattle.resolvo_store_core.specs.Signed.{same_literal};
+ghost use Rattle.resolvo_store_core.specs.Signed.{negation, same_literal, has};
 ghost use Rattle.resolvo_sat.specs.Clauses.{sat_clause, pair_clause};
 ghost use Rattle.resolvo_sat.specs.Entries.{made_true};
 ghost use Rattle.resolvo_sat.specs.State.{IsState, history, count_of};
@@ -147,7 +147,11 @@ impl SatState {
     fn is_plain(&self, watching: &WatchLists, pair: &WatchedLiterals, is_free: bool) -> bool
         requires state { IsState self.now }
         requires free { IsFreeIf is_free self.now pair.now.first }
-        ensures { result ≡ true → AreOpen (made_true (history self.now)) pair.now }
+        ensures open { result ≡ true → AreOpen (made_true (history self.now)) pair.now }
+        ensures plain { is_free ≡ true
+            → vec_len watching.now.at_once ≡ 0
+            → has (made_true (history self.now)) (negation pair.now.second) ≡ false
+            → result ≡ true }
     {
         if !is_free {
             return false;

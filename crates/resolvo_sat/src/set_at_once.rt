@@ -2,14 +2,14 @@
 //! but one without value. It is then set by the clause, at the trail's end and the top level. Such
 //! entries are noted, and made as the next propagation begins. Until then no other entry is made.
 //! By the rules a new clause is added where the noted ones are made, so values are read with them.
-ghost use Rattle.std.specs.Prelude.{◌≡◌, ◌<◌, length, None, IfOk, IfSome, IsOkUnless};
+ghost use Rattle.std.specs.Prelude.{◌≡◌, ◌<◌, length, true, None, IfOk, IfSome, IsOkUnless};
 ghost use Rattle.resolvo_pool_core.specs.declared.want.Want.TheVariants.{Memory};
-ghost use Rattle.resolvo_store_core.specs.Signed.{has};
+ghost use Rattle.resolvo_store_core.specs.Signed.{negation, has};
 ghost use Rattle.resolvo_sat.specs.Known.{clause_at};
 ghost use Rattle.resolvo_sat.specs.Entries.{made_true};
 ghost use Rattle.resolvo_sat.specs.State.{IsState, history, clauses_of};
 ghost use Rattle.resolvo_sat.specs.Propagation.{IsReady, IsFree, Extends};
-ghost use Rattle.resolvo_sat.specs.Pending.{AreFalseBut, Proceeds, KeepsLists};
+ghost use Rattle.resolvo_sat.specs.Pending.{AreFalse, AreFalseBut, Proceeds, KeepsLists};
 
 use crate::state::SatState;
 use crate::watch_lists::{Start, WatchLists};
@@ -20,7 +20,7 @@ use resolvo_store_core::watched_literals::WatchedLiterals;
 
 impl SatState {
     /// Notes where a new rule is falsified as it is added, or where it sets a literal, if its kind does
-    /// so.
+    /// so. What a rule sets is a hint: no proof rests on it.
     pub(crate) fn note_rule(
         &self,
         watching: &mut WatchLists,
@@ -29,6 +29,9 @@ impl SatState {
         sets_at_once: bool,
     ) -> R<()>
         requires { IsState self.now }
+        ensures broken { IfOk result
+            (λ _. AreFalse (made_true (history self.now)) literals.now
+            → watching.new.is_broken ≡ true) }
         ensures kept { KeepsLists watching.old watching.new }
         ensures refusal { IsOkUnless result Memory }
     {
@@ -48,7 +51,8 @@ impl SatState {
     /// The place of the first literal from this one on that isn't false.
     fn open_place(&self, watching: &WatchLists, literals: &[Literal], from: usize) -> Option<usize>
         requires { IsState self.now }
-        ensures { IfSome result (λ place. place < length literals.now) }
+        ensures there { IfSome result (λ place. place < length literals.now) }
+        ensures none { AreFalse (made_true (history self.now)) literals.now → result ≡ None }
     {
         for place in from..literals.len() {
             if !self.is_false_with_new(watching, literals[place]) {
@@ -61,6 +65,7 @@ impl SatState {
     /// Whether a literal is false, by the trail or by what is noted.
     pub(crate) fn is_false_with_new(&self, watching: &WatchLists, literal: Literal) -> bool
         requires { IsState self.now }
+        ensures { has (made_true (history self.now)) (negation literal) ≡ true → result ≡ true }
     {
         if self.is_false(literal) {
             return true;
