@@ -56,7 +56,11 @@ impl<Id: DenseIndex> IndexedSet<Id> {
         ensures refusal { IsOkUnless result Memory }
     {
         let i = id.to_index();
-        if i >= self.flags.len() {
+        if i == self.flags.len() {
+            self.flags.push(true)?;
+            return Ok(true);
+        }
+        if i > self.flags.len() {
             self.flags.resize(i + 1, false)?;
         }
         let new = !self.flags[i];
