@@ -1,5 +1,5 @@
 pub mod Favoured
 pub mod HintedLemmas
-pub mod IdListLemmas
 pub mod KeptLemmas
+pub mod PlaceLemmas
 pub mod TableLemmas

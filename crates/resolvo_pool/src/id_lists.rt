@@ -1,38 +1,34 @@
-//! Lists of values by id. They lie one after another, in the order in which they were put in, and a
-//! map by id has their places. So none has memory of its own, and a look-up of a dense id hashes
-//! nothing. Its model is the list of pairs.
+//! Lists of values by id. They lie one after another, in the order in which they were put in, so
+//! none has memory of its own. Its model is the list of pairs.
 ghost use Rattle.std.specs.Prelude.{◌≡◌, [], Some, false, OnOk, OnErr, IsOkUnless};
 ghost use Rattle.std.specs.Option.{option_copied, is_some};
 ghost use Rattle.std.specs.Map.{lookup};
 ghost use Rattle.resolvo_pool_core.specs.declared.want.Want.TheVariants.{Memory};
 ghost use Rattle.resolvo_pool.specs.Keyed.{PutsKey};
 
+use crate::places::Places;
 use resolvo_pool_core::flat_lists::FlatLists;
 use resolvo_pool_core::id_map::{IdMap, OptionalNumber};
-use resolvo_pool_core::want::{R, Want};
+use resolvo_pool_core::want::R;
 use std::alloc::Global;
 use std::marker::Model;
 
 /// Lists of values by id.
 #[derive(Drop)]
 pub struct IdLists<K: Copy + Eq, T, M: IdMap<K, OptionalNumber>> {
-    keys: Vec<K>,
+    places: Places<K, M>,
     lists: FlatLists<T>,
-    places: M,
 }
 
 impl<K: Copy + Eq, T, M: IdMap<K, OptionalNumber>> Model for IdLists<K, T, M> {
     ghost use Rattle.std.specs.Prelude.{◌≡◌, List, length};
     ghost use Rattle.std.specs.List.{zip};
-    ghost use Rattle.resolvo_pool.specs.Keyed.{ArePlaced};
 
     ghost Value = { List (K × List T) };
 
-    ghost view = { λ t. zip t.keys.items t.lists };
+    ghost view = { λ t. zip t.places t.lists };
 
-    ghost invariant = { λ t.
-        (length t.lists ≡ length t.keys.items)
-        × ArePlaced K.eq (M.value_of t.places) (zip t.keys.items t.lists) };
+    ghost invariant = { λ t. length t.lists ≡ length t.places };
 }
 
 impl<K: Copy + Eq, T: Copy, M: IdMap<K, OptionalNumber> + Drop> IdLists<K, T, M> {
@@ -41,9 +37,8 @@ impl<K: Copy + Eq, T: Copy, M: IdMap<K, OptionalNumber> + Drop> IdLists<K, T, M>
         ensures { result ≡ [] }
     {
         IdLists {
-            keys: Vec::new(alloc),
+            places: Places::new(alloc),
             lists: FlatLists::new(alloc),
-            places: M::new(alloc),
         }
     }
 
@@ -51,7 +46,7 @@ impl<K: Copy + Eq, T: Copy, M: IdMap<K, OptionalNumber> + Drop> IdLists<K, T, M>
     pub fn get(&self, id: K) -> Option<&[T]>
         ensures value { option_copied result ≡ lookup (K.eq id) self.now }
     {
-        match self.places.get(id).get() {
+        match self.places.get(id) {
             None => None,
             Some(place) => Some(self.lists.get(place as usize)),
         }
@@ -72,17 +67,9 @@ impl<K: Copy + Eq, T: Copy, M: IdMap<K, OptionalNumber> + Drop> IdLists<K, T, M>
         ensures err { OnErr result (self.new ≡ self.old) }
         ensures refusal { IsOkUnless result Memory }
     {
-        let place = self.keys.len();
-        if place >= u32::MAX as usize {
-            return Err(Want::Memory);
-        }
-        self.keys.reserve(1)?;
         self.lists.push(list)?;
-        match self.places.set(id, OptionalNumber::of(place as u32)) {
-            Ok(()) => {
-                self.keys.push_reserved(id);
-                Ok(())
-            }
+        match self.places.put(id) {
+            Ok(()) => Ok(()),
             Err(want) => {
                 self.lists.pop();
                 Err(want)

@@ -1,32 +1,32 @@
-//! Values by id. The entries lie in the order in which they were put in, and a map by id has their
-//! places. So a look-up of a dense id hashes nothing. Its model is the list of pairs.
+//! Values by id, in the order in which they were put in. Its model is the list of pairs.
 ghost use Rattle.std.specs.Prelude.{◌≡◌, [], Some, false, OnOk, OnErr, IsOkUnless};
 ghost use Rattle.std.specs.Option.{option_copied, is_some};
 ghost use Rattle.std.specs.Map.{lookup};
 ghost use Rattle.resolvo_pool_core.specs.declared.want.Want.TheVariants.{Memory};
 ghost use Rattle.resolvo_pool.specs.Keyed.{PutsKey};
 
+use crate::places::Places;
 use resolvo_pool_core::id_map::{IdMap, OptionalNumber};
-use resolvo_pool_core::want::{R, Want};
+use resolvo_pool_core::want::R;
 use std::alloc::Global;
 use std::marker::Model;
 
 /// Values by id.
 #[derive(Drop)]
 pub struct IdTable<K: Copy + Eq, V, M: IdMap<K, OptionalNumber>> {
-    entries: Vec<(K, V)>,
-    places: M,
+    places: Places<K, M>,
+    values: Vec<V>,
 }
 
 impl<K: Copy + Eq, V, M: IdMap<K, OptionalNumber>> Model for IdTable<K, V, M> {
-    ghost use Rattle.std.specs.Prelude.{List};
-    ghost use Rattle.resolvo_pool.specs.Keyed.{ArePlaced};
+    ghost use Rattle.std.specs.Prelude.{◌≡◌, List, length};
+    ghost use Rattle.std.specs.List.{zip};
 
     ghost Value = { List (K × V) };
 
-    ghost view = { λ t. t.entries.items };
+    ghost view = { λ t. zip t.places t.values.items };
 
-    ghost invariant = { λ t. ArePlaced K.eq (M.value_of t.places) t.entries.items };
+    ghost invariant = { λ t. length t.values.items ≡ length t.places };
 }
 
 impl<K: Copy + Eq, V: Drop, M: IdMap<K, OptionalNumber> + Drop> IdTable<K, V, M> {
@@ -35,8 +35,8 @@ impl<K: Copy + Eq, V: Drop, M: IdMap<K, OptionalNumber> + Drop> IdTable<K, V, M>
         ensures { result ≡ [] }
     {
         IdTable {
-            entries: Vec::new(alloc),
-            places: M::new(alloc),
+            places: Places::new(alloc),
+            values: Vec::new(alloc),
         }
     }
 
@@ -44,9 +44,9 @@ impl<K: Copy + Eq, V: Drop, M: IdMap<K, OptionalNumber> + Drop> IdTable<K, V, M>
     pub fn get(&self, id: K) -> Option<&V>
         ensures value { option_copied result ≡ lookup (K.eq id) self.now }
     {
-        match self.places.get(id).get() {
+        match self.places.get(id) {
             None => None,
-            Some(place) => Some(&self.entries[place as usize].1),
+            Some(place) => Some(&self.values[place as usize]),
         }
     }
 
@@ -65,13 +65,9 @@ impl<K: Copy + Eq, V: Drop, M: IdMap<K, OptionalNumber> + Drop> IdTable<K, V, M>
         ensures err { OnErr result (self.new ≡ self.old) }
         ensures refusal { IsOkUnless result Memory }
     {
-        let place = self.entries.len();
-        if place >= u32::MAX as usize {
-            return Err(Want::Memory);
-        }
-        self.entries.reserve(1)?;
-        self.places.set(id, OptionalNumber::of(place as u32))?;
-        self.entries.push((id, value)).unwrap();
+        self.values.reserve(1)?;
+        self.places.put(id)?;
+        self.values.push_reserved(value);
         Ok(())
     }
 }

@@ -6,6 +6,7 @@ pub mod frozen_copy_map;
 mod hinted;
 mod id_lists;
 mod id_table;
+mod places;
 
 pub use cache::{CacheFault, SolverCache};
 pub use frozen_copy_map::FrozenCopyMap;
