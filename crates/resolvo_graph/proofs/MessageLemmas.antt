@@ -6,10 +6,7 @@ use Rattle.resolvo_graph.specs.declared.graph.NodeIndex.{NodeIndex}
 use Rattle.resolvo_graph.specs.declared.graph.Edge.{Edge}
 use Rattle.resolvo_graph.specs.declared.display_line.MessageLine.{MessageLine}
 use Rattle.resolvo_graph.specs.Graph.{Graph, edges_of}
-use Rattle.resolvo_graph.specs.Merge.{IsMerged}
-use Rattle.resolvo_graph.specs.Outlook.{installable_in, missing_in}
-use Rattle.resolvo_graph.specs.Walk.{IsPostOrder}
-use Rattle.resolvo_graph.specs.Message.{heading, conflict_lines, misses, fits, IsSecondPart, AreParts, IsMessage}
+use Rattle.resolvo_graph.specs.Message.{heading, conflict_lines, misses, fits, IsSecondPart, AreParts}
 use Rattle.resolvo_graph.specs.Runs.{runs_of}
 use Rattle.resolvo_graph.specs.Sink.{Adds}
 use Rattle.resolvo_graph.specs.Tree.{Findings, IsTree}
@@ -41,17 +38,6 @@ headed took start pushed tree own conflicts l u v w z none put is same first sec
     adds_both took u v z (heading ∷ []) (tree ++ conflicts) (adds_same took u v pushed (heading ∷ []) top first) (adds_both took v w z tree conflicts second (adds_same took w z own conflicts same third))
 
 -- the parts, up to equal nodes
-parts_along : {S : Type 0} (g : Graph S) (same : S → S → Bool) (merged : S → Option (List S)) (can installable miss missing : List NodeIndex) (lines : List (MessageLine S)) → can ≡ installable → miss ≡ missing → AreParts (record { graph = g; same = same; installable = can; merged = merged }) miss (edges_of g (record { 0 = 0 })) lines → AreParts (record { graph = g; same = same; installable = installable; merged = merged }) missing (edges_of g (record { 0 = 0 })) lines
+pub parts_along : {S : Type 0} (g : Graph S) (same : S → S → Bool) (merged : S → Option (List S)) (can installable miss missing : List NodeIndex) (lines : List (MessageLine S)) → can ≡ installable → miss ≡ missing → AreParts (record { graph = g; same = same; installable = can; merged = merged }) miss (edges_of g (record { 0 = 0 })) lines → AreParts (record { graph = g; same = same; installable = installable; merged = merged }) missing (edges_of g (record { 0 = 0 })) lines
 parts_along g same merged can installable miss missing lines a b holds =
     subst (λ ns. AreParts (record { graph = g; same = same; installable = installable; merged = merged }) ns (edges_of g (record { 0 = 0 })) lines) b (subst (λ ns. AreParts (record { graph = g; same = same; installable = ns; merged = merged }) miss (edges_of g (record { 0 = 0 })) lines) a holds)
-
--- the message along a walk, up to equal nodes
-pub message : {N S : Type 0} (same_name : N → N → Bool) (same : S → S → Bool) (name_of : S → N) (g : Graph S) (order : List NodeIndex) (merged : S → Option (List S)) (can miss : List NodeIndex) (lines : List (MessageLine S)) → IsPostOrder g order → IsMerged same_name same g name_of merged → can ≡ installable_in g order → miss ≡ missing_in g order → AreParts (record { graph = g; same = same; installable = can; merged = merged }) miss (edges_of g (record { 0 = 0 })) lines → IsMessage same_name same name_of g lines
-message same_name same name_of g order merged can miss lines walked as_one a b holds =
-    record {
-      order = order;
-      merged = merged;
-      walked = walked;
-      are_merged = as_one;
-      parts = parts_along g same merged can (installable_in g order) miss (missing_in g order) lines a b holds;
-    }

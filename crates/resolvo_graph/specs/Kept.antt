@@ -20,4 +20,4 @@ ids_at groups g = option_map_or (λ n. n.ids.items) (slice_get groups g) []
 
 -- the input of a tree, from the values of the code
 abbrev pub findings : {S : Type 0} → (S → S → Bool) → code.Findings S → Findings S
-findings same f = record { graph = f.graph.now; same = same; installable = f.installable.keys; merged = merged_with same f.merged }
+findings same f = record { graph = f.graph.now; same = same; installable = f.installable.keys; merged = merged_with same f.merged.now }

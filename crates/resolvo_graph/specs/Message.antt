@@ -60,6 +60,10 @@ pub record IsMessage {N S : Type 0} (same_name : N → N → Bool) (same : S →
   pub are_merged : IsMerged same_name same g name_of merged
   pub parts : AreParts (record { graph = g; same = same; installable = installable_in g order; merged = merged }) (missing_in g order) (edges_of g (record { 0 = 0 })) lines
 
+-- the lines along some walk, with these merged versions
+abbrev pub AreLinesWith : {S : Type 0} → (S → S → Bool) → (S → Option (List S)) → Graph S → List (MessageLine S) → Type 0
+AreLinesWith same merged g lines = (order : List NodeIndex) × IsPostOrder g order × AreParts (record { graph = g; same = same; installable = installable_in g order; merged = merged }) (missing_in g order) (edges_of g (record { 0 = 0 })) lines
+
 -- the bytes of these lines
 abbrev pub text_of : {N S : Type 0} → Meaning N S → List (MessageLine S) → List ℕ
 text_of m lines = flat_map (line_text m) lines

@@ -5,8 +5,8 @@ ghost use Rattle.std.specs.Prelude.{◌≡◌, ◌++◌, List, IfOk, OnOk, Some,
 ghost use Rattle.resolvo_pool_core.specs.declared.want.Want.TheVariants.{Memory};
 ghost use Rattle.resolvo_graph.specs.declared.display_line.MessageLine.{MessageLine};
 ghost use Rattle.resolvo_graph.specs.Graph.{edges_of};
-ghost use Rattle.resolvo_graph.specs.Message.{IsMessage, IsLengthBelow, AreParts, IsSecondPart, conflict_line, conflict_lines, misses, fits, text_of};
-ghost use Rattle.resolvo_graph.specs.Kept.{findings};
+ghost use Rattle.resolvo_graph.specs.Message.{IsMessage, AreLinesWith, IsLengthBelow, AreParts, IsSecondPart, conflict_line, conflict_lines, misses, fits, text_of};
+ghost use Rattle.resolvo_graph.specs.Kept.{findings, merged_with};
 ghost use Rattle.resolvo_graph.specs.Sink.{Adds};
 ghost use Rattle.resolvo_graph.specs.Words.{meaning_by};
 
@@ -15,6 +15,7 @@ use crate::display_line::{DisplayLine, MessageLine, Sentence, Verdict, Versions}
 use crate::graph::{ConflictCause, ConflictEdge, ConflictGraph, Edge, NodeIndex};
 use crate::indenter::Indenter;
 use crate::installability::{installable, missing};
+use crate::merge::MergedConflictNode;
 use crate::sink::LineSink;
 use crate::tree::{Findings, order_before};
 use crate::walk::post_order;
@@ -24,9 +25,10 @@ use resolvo_pool_core::provider::Interner;
 use resolvo_pool_core::solver_id::SolverId;
 use resolvo_pool_core::want::R;
 use std::alloc::Global;
+use std::collections::HashMap;
 use std::fmt;
-use std::fmt::Debug;
 use std::hash::Hash;
+use std::rc::Rc;
 
 /// The message of a conflict graph.
 #[derive(Drop)]
@@ -114,17 +116,34 @@ fn write_lines<S: SolverId, I: Interner<SolvableId = S>, L: LineSink<S>>(
         × Adds L.took sink.old lines sink.new) }
     ensures refusal { IsOkUnless result Memory }
 {
+    let merged = graph.simplify(alloc, interner)?;
+    write_merged(alloc, graph, &merged, sink)
+}
+
+/// Writes the lines of the message of a graph with these merged versions.
+fn write_merged<S: Copy + Exact + Hash, L: LineSink<S>>(
+    alloc: Global,
+    graph: &ConflictGraph<S>,
+    merged: &HashMap<S, Rc<MergedConflictNode<S>>>,
+    sink: &mut L,
+) -> R<()>
+    ensures lines { OnOk result
+        ((lines : List (MessageLine S))
+        × AreLinesWith S.eq (merged_with S.eq merged.now) graph.now lines
+        × Adds L.took sink.old lines sink.new) }
+    ensures refusal { IsOkUnless result Memory }
+{
     let order = post_order(alloc, graph)?;
     let missing = missing(alloc, graph, &order)?;
     let findings = Findings {
         graph,
         installable: installable(alloc, graph, &order)?,
-        merged: graph.simplify(alloc, interner)?,
+        merged,
     };
     findings.message(alloc, &missing, sink)
 }
 
-impl<S: Copy + Exact + Hash + Debug> Findings<'_, S> {
+impl<S: Copy + Exact + Hash> Findings<'_, S> {
     /// Writes the lines of the message, where these nodes miss a candidate.
     fn message<L: LineSink<S>>(
         &self,
@@ -176,7 +195,7 @@ impl<S: Copy + Exact + Hash + Debug> Findings<'_, S> {
 }
 
 /// The edges whose targets miss a candidate, and the others.
-fn partition<S: Copy + Exact + Hash + Debug>(
+fn partition<S: Copy>(
     alloc: Global,
     edges: &[Edge<S>],
     missing: &IndexSet<NodeIndex>,
@@ -198,10 +217,7 @@ fn partition<S: Copy + Exact + Hash + Debug>(
 }
 
 /// The lines of the root's own conflicts.
-fn conflict_lines<S: Copy + Exact + Hash + Debug>(
-    alloc: Global,
-    edges: &[Edge<S>],
-) -> R<Vec<MessageLine<S>>>
+fn conflict_lines<S: Copy>(alloc: Global, edges: &[Edge<S>]) -> R<Vec<MessageLine<S>>>
     ensures lines { IfOk result (λ v. v.items ≡ conflict_lines edges.now) }
     ensures refusal { IsOkUnless result Memory }
 {
@@ -217,7 +233,7 @@ fn conflict_lines<S: Copy + Exact + Hash + Debug>(
 }
 
 /// Writes a conflict of the root itself: a constraint, or a lock.
-fn write_conflict<S: Copy + Exact + Hash + Debug>(
+fn write_conflict<S: Copy>(
     alloc: Global,
     weight: ConflictEdge<S>,
     indenter: Indenter,

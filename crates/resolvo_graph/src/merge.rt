@@ -17,7 +17,6 @@ use resolvo_pool_core::solver_id::SolverId;
 use resolvo_pool_core::want::R;
 use std::alloc::Global;
 use std::collections::HashMap;
-use std::fmt::Debug;
 use std::hash::Hash;
 use std::marker::Model;
 use std::rc::Rc;
@@ -97,7 +96,7 @@ impl<S: SolverId> ConflictGraph<S> {
 }
 
 /// The versions with their numbers. Merged versions share one number.
-fn members<N: Copy + Exact + Hash + Debug, S: Copy + Exact + Hash + Debug>(
+fn members<N: Copy + Exact + Hash, S: Copy>(
     alloc: Global,
     profiles: Vec<Profile<N, S>>,
 ) -> R<Vec<Member<S>>>
@@ -111,7 +110,7 @@ fn members<N: Copy + Exact + Hash + Debug, S: Copy + Exact + Hash + Debug>(
 }
 
 /// Adds the versions of some profiles, each with the number of its likeness.
-fn number<N: Copy + Exact + Hash + Debug, S: Copy + Exact + Hash + Debug>(
+fn number<N: Copy + Exact + Hash, S: Copy>(
     profiles: Vec<Profile<N, S>>,
     likenesses: &mut IndexSet<Likeness<N>>,
     members: &mut Vec<Member<S>>,
@@ -130,10 +129,7 @@ fn number<N: Copy + Exact + Hash + Debug, S: Copy + Exact + Hash + Debug>(
 }
 
 /// The groups, each at its number.
-fn groups<S: Copy + Exact + Hash + Debug>(
-    alloc: Global,
-    members: &[Member<S>],
-) -> R<Vec<MergedConflictNode<S>>>
+fn groups<S: Copy>(alloc: Global, members: &[Member<S>]) -> R<Vec<MergedConflictNode<S>>>
     ensures groups { IfOk result (λ v. (g : ℕ) → ids_at v.items g ≡ numbered members.now g) }
     ensures refusal { IsOkUnless result Memory }
 {
@@ -146,10 +142,7 @@ fn groups<S: Copy + Exact + Hash + Debug>(
 }
 
 /// Appends a version to the group of its number.
-fn add<S: Copy + Exact + Hash + Debug>(
-    groups: &mut Vec<MergedConflictNode<S>>,
-    member: Member<S>,
-) -> R<()>
+fn add<S: Copy>(groups: &mut Vec<MergedConflictNode<S>>, member: Member<S>) -> R<()>
     requires { member.group < vec_len groups.old }
     ensures ids { OnOk result
         ((g : ℕ)
@@ -162,11 +155,7 @@ fn add<S: Copy + Exact + Hash + Debug>(
 }
 
 /// Adds empty groups until there is one of this number.
-fn cover<S: Copy + Exact + Hash + Debug>(
-    alloc: Global,
-    groups: &mut Vec<MergedConflictNode<S>>,
-    number: usize,
-) -> R<()>
+fn cover<S: Copy>(alloc: Global, groups: &mut Vec<MergedConflictNode<S>>, number: usize) -> R<()>
     ensures same { (g : ℕ) → ids_at groups.new.items g ≡ ids_at groups.old.items g }
     ensures covered { OnOk result (number < vec_len groups.new) }
     ensures refusal { IsOkUnless result Memory }
@@ -180,7 +169,7 @@ fn cover<S: Copy + Exact + Hash + Debug>(
 }
 
 /// The groups behind reference counts.
-fn shared<S: Copy + Exact + Hash + Debug>(
+fn shared<S: Copy>(
     alloc: Global,
     groups: Vec<MergedConflictNode<S>>,
 ) -> R<Vec<Rc<MergedConflictNode<S>>>>
@@ -195,7 +184,7 @@ fn shared<S: Copy + Exact + Hash + Debug>(
 }
 
 /// The groups of two versions or more, by each of their versions.
-fn merged<S: Copy + Exact + Hash + Debug>(
+fn merged<S: Copy + Exact + Hash>(
     alloc: Global,
     members: &[Member<S>],
     groups: &[Rc<MergedConflictNode<S>>],
@@ -217,7 +206,7 @@ fn merged<S: Copy + Exact + Hash + Debug>(
 }
 
 /// Inserts a group under one of its versions, unless that is its only one.
-fn keep<S: Copy + Exact + Hash + Debug>(
+fn keep<S: Copy + Exact + Hash>(
     merged: &mut HashMap<S, Rc<MergedConflictNode<S>>>,
     solvable: S,
     group: &Rc<MergedConflictNode<S>>,

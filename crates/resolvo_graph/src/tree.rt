@@ -28,7 +28,6 @@ use resolvo_pool_core::id::{Exact, SolvableId, StringId, VersionSetId};
 use resolvo_pool_core::want::R;
 use std::alloc::Global;
 use std::collections::HashMap;
-use std::fmt::Debug;
 use std::hash::Hash;
 use std::marker::Model;
 use std::rc::Rc;
@@ -61,15 +60,15 @@ impl<S> Model for Entry<S> {
 
 /// The input of a message: the graph, the installable nodes, and the merged versions.
 #[derive(Drop)]
-pub(crate) struct Findings<'a, S: Copy + Exact + Hash + Debug> {
+pub(crate) struct Findings<'a, S: Copy + Exact + Hash> {
     pub(crate) graph: &'a ConflictGraph<S>,
     pub(crate) installable: IndexSet<NodeIndex>,
-    pub(crate) merged: HashMap<S, Rc<MergedConflictNode<S>>>,
+    pub(crate) merged: &'a HashMap<S, Rc<MergedConflictNode<S>>>,
 }
 
 /// The state while a tree is written.
 #[derive(Drop)]
-struct TreeWriter<S: Copy + Exact + Hash + Debug> {
+struct TreeWriter<S: Copy + Exact + Hash> {
     /// The versions that lines cover, as parts of merged ones.
     covered: IndexSet<S>,
     /// The entries that are left to write, the next one at the end.
@@ -78,7 +77,7 @@ struct TreeWriter<S: Copy + Exact + Hash + Debug> {
     lines: Vec<MessageLine<S>>,
 }
 
-impl<S: Copy + Exact + Hash + Debug> Findings<'_, S> {
+impl<S: Copy + Exact + Hash> Findings<'_, S> {
     /// Writes the tree of the runs of some edges.
     pub(crate) fn tree<L: LineSink<S>>(
         &self,
@@ -98,12 +97,33 @@ impl<S: Copy + Exact + Hash + Debug> Findings<'_, S> {
             stack: Vec::new(alloc),
             lines: Vec::new(alloc),
         };
+        self.write_tree(alloc, edges, top_level_indent, &mut writer, sink)
+    }
+
+    /// Writes the tree of the runs of some edges, by a writer that has written nothing.
+    fn write_tree<L: LineSink<S>>(
+        &self,
+        alloc: Global,
+        edges: &[Edge<S>],
+        top_level_indent: bool,
+        writer: &mut TreeWriter<S>,
+        sink: &mut L,
+    ) -> R<()>
+        requires covered { writer.old.covered.keys ≡ [] }
+        requires stack { writer.old.stack.items ≡ [] }
+        requires lines { writer.old.lines.items ≡ [] }
+        ensures lines { OnOk result
+            ((lines : List (MessageLine S))
+            × IsTree (findings S.eq self.now) top_level_indent (runs_of edges.now) lines
+            × Adds L.took sink.old lines sink.new) }
+        ensures refusal { IsOkUnless result Memory }
+    {
         self.place_top(alloc, edges, top_level_indent, &mut writer.stack)?;
         while let Some(entry) = writer.stack.pop() {
             if sink.is_full() {
                 return Ok(());
             }
-            self.write_entry(alloc, entry, &mut writer)?;
+            self.write_entry(alloc, entry, writer)?;
             sink.take(&mut writer.lines)?;
         }
         Ok(())
@@ -429,7 +449,7 @@ impl<S: Copy + Exact + Hash + Debug> Findings<'_, S> {
     /// The versions that are merged with one, or that one alone.
     fn merged_versions(&self, alloc: Global, version: S) -> R<Versions<S>>
         ensures versions { IfOk result
-            (λ v. v ≡ unwrap_or (merged_with S.eq self.now.merged version) (version ∷ [])) }
+            (λ v. v ≡ unwrap_or (merged_with S.eq self.now.merged.now version) (version ∷ [])) }
         ensures refusal { IsOkUnless result Memory }
     {
         if let Some(group) = self.merged.get(&version) {
@@ -504,7 +524,7 @@ impl<S: Copy + Exact + Hash + Debug> Findings<'_, S> {
 }
 
 /// Pushes siblings one level below an indent, so that the first is written last.
-fn place<S: Copy + Exact + Hash + Debug>(
+fn place<S: Copy>(
     alloc: Global,
     ops: Vec<DisplayOp<S>>,
     indenter: &Indenter,
@@ -525,7 +545,7 @@ fn place<S: Copy + Exact + Hash + Debug>(
 }
 
 /// An entry one level below an indent.
-fn sibling<S: Copy + Exact + Hash + Debug>(
+fn sibling<S: Copy>(
     alloc: Global,
     op: DisplayOp<S>,
     indenter: &Indenter,
@@ -544,7 +564,7 @@ fn sibling<S: Copy + Exact + Hash + Debug>(
 }
 
 /// The further lines of a version with this verdict and these edges.
-fn further_lines<S: Copy + Exact + Hash + Debug>(
+fn further_lines<S: Copy>(
     alloc: Global,
     verdict: Verdict,
     indenter: &Indenter,
@@ -560,24 +580,21 @@ fn further_lines<S: Copy + Exact + Hash + Debug>(
 }
 
 /// Whether one of these edges is between versions of one package.
-fn has_forbidden<S: Copy + Exact + Hash + Debug>(edges: &[Edge<S>]) -> bool
+fn has_forbidden<S: Copy>(edges: &[Edge<S>]) -> bool
     ensures { result ≡ list_any (λ e. is_forbidden e.weight) edges.now }
 {
     edges.iter().any(|edge| edge.weight.is_forbidden())
 }
 
 /// Whether the source of one of these edges admits some versions alone.
-fn has_admitted<S: Copy + Exact + Hash + Debug>(edges: &[Edge<S>]) -> bool
+fn has_admitted<S: Copy>(edges: &[Edge<S>]) -> bool
     ensures { result ≡ list_any is_admitting edges.now }
 {
     edges.iter().any(|edge| edge.weight.admitted().is_some())
 }
 
 /// The version sets that a node with these edges admits alone, without consecutive repeats.
-fn admitted<S: Copy + Exact + Hash + Debug>(
-    alloc: Global,
-    edges: &[Edge<S>],
-) -> R<Vec<VersionSetId>>
+fn admitted<S: Copy>(alloc: Global, edges: &[Edge<S>]) -> R<Vec<VersionSetId>>
     ensures version_sets { IfOk result (λ v. v.items ≡ dedup same_set (admitted_in edges.now)) }
     ensures refusal { IsOkUnless result Memory }
 {
@@ -587,10 +604,7 @@ fn admitted<S: Copy + Exact + Hash + Debug>(
 }
 
 /// The version sets that a node with these edges admits alone.
-fn all_admitted<S: Copy + Exact + Hash + Debug>(
-    alloc: Global,
-    edges: &[Edge<S>],
-) -> R<Vec<VersionSetId>>
+fn all_admitted<S: Copy>(alloc: Global, edges: &[Edge<S>]) -> R<Vec<VersionSetId>>
     ensures version_sets { IfOk result (λ v. v.items ≡ admitted_in edges.now) }
     ensures refusal { IsOkUnless result Memory }
 {
@@ -604,7 +618,7 @@ fn all_admitted<S: Copy + Exact + Hash + Debug>(
 }
 
 /// A line for each version set that a version admits alone, one level deeper.
-fn admitted_lines<S: Copy + Exact + Hash + Debug>(
+fn admitted_lines<S: Copy>(
     alloc: Global,
     indenter: &Indenter,
     version_sets: &[VersionSetId],

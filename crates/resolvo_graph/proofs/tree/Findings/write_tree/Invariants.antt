@@ -3,7 +3,7 @@ use Rattle.resolvo_graph.specs.Kept.{findings}
 use Rattle.resolvo_graph.specs.Runs.{runs_of}
 use Rattle.resolvo_graph.specs.Tree.{siblings, in_rank}
 use Rattle.resolvo_graph.proofs.TreeLemmas.{Follows, IsKnown, weights, reached}
-use Rattle.resolvo_graph.proofs.tree.Findings.tree.Given as goal
+use Rattle.resolvo_graph.proofs.tree.Findings.write_tree.Given as goal
 
 -- the lines of the stack's entries follow those that were taken
 abbrev pub invariant-loop-entry : goal.invariant-loop-entry

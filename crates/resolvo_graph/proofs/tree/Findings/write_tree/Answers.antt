@@ -5,18 +5,18 @@ use Rattle.resolvo_graph.specs.Kept.{findings}
 use Rattle.resolvo_graph.specs.Runs.{runs_of}
 use Rattle.resolvo_graph.specs.Tree.{siblings, in_rank}
 use Rattle.resolvo_graph.proofs.TreeLemmas.{IsKnown, reached, reached_own, reached_edges, known_start, known_next, smaller, begins, follows, taken, filled}
-use Rattle.resolvo_graph.proofs.tree.Findings.tree.Goals as goal
+use Rattle.resolvo_graph.proofs.tree.Findings.write_tree.Goals as goal
 
 pub loop-entry-init : goal.loop-entry-init
 loop-entry-init g c =
     let f = findings g.S.PartialEq.eq c.args.self.now in
     let es = c.args.edges.now in
     let put : c.place_top.new.stack.items ≡ [] ++ reverse (siblings (record { levels = []; top_level_indent = c.args.top_level_indent }) [] (reverse (in_rank f (runs_of es)))) =
-    c.in_ok-place_top.ensures.stack ∙ ap (λ xs. xs ++ reverse (siblings (record { levels = []; top_level_indent = c.args.top_level_indent }) [] (reverse (in_rank f (runs_of es))))) c.new-2.ensures.items in
+    c.in_ok-place_top.ensures.stack ∙ ap (λ xs. xs ++ reverse (siblings (record { levels = []; top_level_indent = c.args.top_level_indent }) [] (reverse (in_rank f (runs_of es))))) c.requires.stack in
     record {
       known = known_start f (reached c.args.self.now.graph.now es) (record { levels = []; top_level_indent = c.args.top_level_indent }) c.place_top.new.stack.items es (reached_own c.args.self.now.graph.now es) put;
-      none = c.new-3.ensures.items;
-      follows = begins f g.L.LineSink.took (siblings (record { levels = []; top_level_indent = c.args.top_level_indent }) [] (reverse (in_rank f (runs_of es)))) c.place_top.new.stack.items c.new.result.keys c.args.sink.now put c.new.ensures.empty;
+      none = c.requires.lines;
+      follows = begins f g.L.LineSink.took (siblings (record { levels = []; top_level_indent = c.args.top_level_indent }) [] (reverse (in_rank f (runs_of es)))) c.place_top.new.stack.items c.args.writer.now.covered.keys c.args.sink.now put c.requires.covered;
     }
 
 pub loop-entry-smaller : goal.loop-entry-smaller
