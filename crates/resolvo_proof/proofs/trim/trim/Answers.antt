@@ -16,3 +16,12 @@ returns-clause-named g c = all_named c.args.steps.items c.in_ok-steps.field-0.st
 
 pub returns-clause-empty : goal.returns-clause-empty
 returns-clause-empty g c = trimmed_empty c.args.steps.items c.in_ok-steps.field-0.steps.items (left g c)
+
+pub returns-clause-proof : goal.returns-clause-proof
+returns-clause-proof g c = c.in_ok-steps.ensures.proof
+
+pub returns-clause-places : goal.returns-clause-places
+returns-clause-places g c = c.in_ok-steps.ensures.places
+
+pub returns-clause-signs : goal.returns-clause-signs
+returns-clause-signs g c = c.in_ok-steps.ensures.signs
