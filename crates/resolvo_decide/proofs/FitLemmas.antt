@@ -26,7 +26,7 @@ use Rattle.resolvo_decide.specs.declared.clause_states.ClauseState.TheVariants.{
 use Rattle.resolvo_decide.specs.declared.candidate_counts.CandidateCounts.{CandidateCounts}
 use Rattle.resolvo_decide.specs.declared.candidate_counts.Occurrence.{Occurrence}
 use Rattle.resolvo_decide.specs.declared.undecided_clauses.UndecidedClauses.{UndecidedClauses}
-use Rattle.resolvo_decide.specs.States.{state_at, reopened, is_open_state}
+use Rattle.resolvo_decide.specs.States.{state_at, reopened, is_open_state, AreClosed}
 use Rattle.resolvo_decide.specs.CandidateCounts.{IsRightCount, AreListed, AreBelow, Begins, HasNoCount, number_at}
 use Rattle.resolvo_decide.specs.Needs.{literals_in, is_met, IsClauseOf, IsMetNow, IsSoundState, Fits, AreRightCounts, KeepsFits, KeepsCounts, KeepsCounted, OffersAtLeast, AddsNeed}
 use Rattle.resolvo_decide.proofs.Positions.{state_end, state_map, state_out, state_put, state_set_other}
@@ -331,7 +331,7 @@ module _ {N : Type 0} (lists : FixedLists N) (values : ℕ → Option Bool) (sco
 
 -- the pick continues after clauses that aren't open
 pub pick_closed : {N : Type 0} (lists : FixedLists N) (values : ℕ → Option Bool) (score : N → ℕ) (needs : UndecidedClauses) (queue : List NeedClause) → Fits (literals_in lists) needs queue → ((v : ℕ) → values v ≡ value_in needs.seen.items v) → (best : Option NextDecision) (from to : ℕ) → from ≤ to
-    → ((i : ℕ) → from ≤ i → i < to → is_open_state (state_at needs.states i) ≡ false) → pick_after lists values score best (drop from queue) ≡ pick_after lists values score best (drop to queue)
+    → AreClosed needs.states from to → pick_after lists values score best (drop from queue) ≡ pick_after lists values score best (drop to queue)
 pick_closed lists values score needs queue f agree best from to order closed = pick_behind lists values score best queue (to - from) from to (omega arith) (λ i above below q at. ap (later best) (sound_nothing lists values needs.seen.items agree q (state_at needs.states i) (f.each i q at) (closed i above below) score) ∙ later_none best)
 
 -- the fit depends on the states, not on their marks

@@ -1,5 +1,5 @@
 -- The states of the need clauses by position, their marks, and the bounds of blocks.
-use Rattle.std.specs.Prelude.{◌≡◌, ℕ, ◌/◌, ◌%◌, ◌<◌, ◌≤◌, cond, nat_lt, Bool, true, false, List, length, slice_index_or}
+use Rattle.std.specs.Prelude.{◌≡◌, ℕ, ◌/◌, ◌%◌, ◌<◌, ◌≤◌, ◌⊎◌, bit_and, cond, nat_lt, Bool, true, false, List, length, slice_index_or}
 use Rattle.std.specs.Int.{bit_at}
 use Rattle.resolvo_decide.specs.declared.clause_states.TheConstants.{BLOCK, GROUP}
 use Rattle.resolvo_decide.specs.declared.clause_states.ClauseState.{ClauseState}
@@ -15,6 +15,10 @@ is_open_state Open = true
 is_open_state (Satisfied within) = false
 is_open_state Inactive = false
 
+-- the clauses from one position up to another are not open
+abbrev pub AreClosed : List ClauseState → ℕ → ℕ → Type 0
+AreClosed states from end = (i : ℕ) → from ≤ i → i < end → is_open_state (state_at states i) ≡ false
+
 -- the state once the trail has only a prefix of this length in common
 abbrev pub reopened : ℕ → ClauseState → ClauseState
 reopened common Open = Open
@@ -28,6 +32,14 @@ word_at marks k = slice_index_or marks k 18446744073709551615
 -- the bit of the clause at a position: 0 where it isn't open
 unfoldable pub bit_of : List ℕ → ℕ → ℕ
 bit_of marks i = bit_at (word_at marks (i / BLOCK)) (i % BLOCK)
+
+-- the clauses from one position up to another are not open, or their bits here are 0
+abbrev pub AreClosedOrCold : List ClauseState → List ℕ → ℕ → ℕ → Type 0
+AreClosedOrCold states warm from end = (i : ℕ) → from ≤ i → i < end → (is_open_state (state_at states i) ≡ false) ⊎ (bit_of warm i ≡ 0)
+
+-- no clause of the blocks from one up to another has a bit in both
+abbrev pub AreApart : List ℕ → List ℕ → ℕ → ℕ → Type 0
+AreApart marks warm from end = (k : ℕ) → from ≤ k → k < end → bit_and (word_at marks k) (word_at warm k) ≡ 0
 
 -- a clause whose bit is 0 isn't open
 abbrev pub AreMarked : List ClauseState → List ℕ → Type 0

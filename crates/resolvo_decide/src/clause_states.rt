@@ -1,13 +1,12 @@
 //! The state of each need clause, by its position in the queue. The model is the list of states.
-//! Marks, a word of bits for each block, show which clauses may be open; the pick skips the others,
-//! and the positions before the first that may be open. Bounds
-//! show how long a prefix of the trail satisfies the clauses of a block. A backjump skips a block
-//! whose bound it keeps.
+//! Marks, a word of bits for each block, show which clauses may be open. The pick skips the others,
+//! and the positions before the first that may be open. Bounds show how long a prefix of the trail
+//! satisfies the clauses of a block. A backjump skips a block whose bound it keeps.
 ghost use Rattle.std.specs.Prelude.{◌≡◌, ℕ, ◌<◌, ◌≤◌, ◌/◌, ◌++◌, ◌∷◌, ◌⊎◌, [], List, Bool, map, max, length, false, true, bit_and, slice_set, OnOk, OnErr, IsOkUnless};
 ghost use Rattle.resolvo_pool_core.specs.declared.want.Want.TheVariants.{Memory};
 ghost use Rattle.resolvo_decide.specs.declared.clause_states.ClauseState.TheVariants.{Open};
 ghost use Rattle.std.specs.Int.{bit_at};
-ghost use Rattle.resolvo_decide.specs.States.{state_at, is_open_state, reopened, word_at, bit_of, mark_at, met_within, bound_at};
+ghost use Rattle.resolvo_decide.specs.States.{state_at, is_open_state, reopened, AreClosed, AreClosedOrCold, AreApart, word_at, bit_of, mark_at, met_within, bound_at};
 
 use resolvo_pool_core::want::R;
 use std::alloc::Global;
@@ -118,10 +117,7 @@ impl ClauseStates {
     /// that isn't open is skipped until it opens.
     pub fn next_open(&mut self, from: usize) -> usize
         ensures behind { from ≤ result }
-        ensures passed { (i : ℕ)
-            → from ≤ i
-            → i < result
-            → is_open_state (state_at self.old i) ≡ false }
+        ensures passed { AreClosed self.old from result }
         ensures open { is_open_state (state_at self.old result) ≡ true }
         ensures same { self.new ≡ self.old }
     {
@@ -136,10 +132,7 @@ impl ClauseStates {
     /// number of clauses.
     pub(crate) fn next_warm(&mut self, from: usize, warm: &[u64]) -> usize
         ensures behind { from ≤ result }
-        ensures passed { (i : ℕ)
-            → from ≤ i
-            → i < result
-            → (is_open_state (state_at self.old i) ≡ false) ⊎ (bit_of warm.now i ≡ 0) }
+        ensures passed { AreClosedOrCold self.old warm.now from result }
         ensures same { self.new ≡ self.old }
     {
         let mut position = self.warm_from(from, warm);
@@ -154,10 +147,7 @@ impl ClauseStates {
     /// clauses.
     fn warm_from(&self, from: usize, warm: &[u64]) -> usize
         ensures behind { from ≤ result }
-        ensures passed { (i : ℕ)
-            → from ≤ i
-            → i < result
-            → (is_open_state (state_at self.now i) ≡ false) ⊎ (bit_of warm.now i ≡ 0) }
+        ensures passed { AreClosedOrCold self.now warm.now from result }
     {
         if from < self.len() {
             first_warm(&self.marks, warm, from, self.len())
@@ -169,10 +159,7 @@ impl ClauseStates {
     /// The same, over the marks alone.
     fn open_from(&mut self, from: usize) -> usize
         ensures behind { from ≤ result }
-        ensures passed { (i : ℕ)
-            → from ≤ i
-            → i < result
-            → is_open_state (state_at self.old i) ≡ false }
+        ensures passed { AreClosed self.old from result }
         ensures open { is_open_state (state_at self.old result) ≡ true }
         ensures same { self.new ≡ self.old }
     {
@@ -195,10 +182,7 @@ impl ClauseStates {
         // After each call.
         ensures behind { position < result }
         ensures within { result ≤ length self.old }
-        ensures passed { (i : ℕ)
-            → position ≤ i
-            → i < result
-            → is_open_state (state_at self.old i) ≡ false }
+        ensures passed { AreClosed self.old position result }
         ensures same { self.new ≡ self.old }
     {
         let end = self.group_end(position);
@@ -225,10 +209,7 @@ impl ClauseStates {
     /// clause.
     fn close_group(&mut self, from: usize, position: usize, next: usize)
         requires within { position < length self.old }
-        requires passed { (i : ℕ)
-            → from ≤ i
-            → i < next
-            → is_open_state (state_at self.old i) ≡ false }
+        requires passed { AreClosed self.old from next }
         ensures { self.new ≡ self.old }
     {
         if from <= position / GROUP * GROUP && self.group_end(position) <= next {
@@ -447,10 +428,7 @@ fn first_warm_word(marks: &[u64], warm: &[u64], from: usize, last: usize) -> usi
     requires { from ≤ last }
     ensures behind { from ≤ result }
     ensures within { result ≤ last }
-    ensures passed { (k : ℕ)
-        → from ≤ k
-        → k < result
-        → bit_and (word_at marks.now k) (word_at warm.now k) ≡ 0 }
+    ensures passed { AreApart marks.now warm.now from result }
 {
     let start = first_of_both(marks, warm, from, last);
     first_of_words(marks, warm, start, last)
@@ -461,10 +439,7 @@ fn first_of_both(marks: &[u64], warm: &[u64], from: usize, last: usize) -> usize
     requires { from ≤ last }
     ensures behind { from ≤ result }
     ensures within { result ≤ last }
-    ensures passed { (k : ℕ)
-        → from ≤ k
-        → k < result
-        → bit_and (word_at marks.now k) (word_at warm.now k) ≡ 0 }
+    ensures passed { AreApart marks.now warm.now from result }
 {
     let both = last.min(marks.len()).min(warm.len());
     for block in from..both {
@@ -480,10 +455,7 @@ fn first_of_words(marks: &[u64], warm: &[u64], from: usize, last: usize) -> usiz
     requires { from ≤ last }
     ensures behind { from ≤ result }
     ensures within { result ≤ last }
-    ensures passed { (k : ℕ)
-        → from ≤ k
-        → k < result
-        → bit_and (word_at marks.now k) (word_at warm.now k) ≡ 0 }
+    ensures passed { AreApart marks.now warm.now from result }
 {
     for block in from..last {
         if warm_word(marks, warm, block) != 0 {

@@ -1,12 +1,12 @@
-use Rattle.std.proofs.Common.{◌≡◌, ℕ, ◌-◌, ◌<◌, ◌≤◌, false, length}
-use Rattle.resolvo_decide.specs.States.{state_at, is_open_state}
+use Rattle.std.proofs.Common.{◌≡◌, ◌-◌, ◌≤◌, length}
+use Rattle.resolvo_decide.specs.States.{AreClosed}
 use Rattle.resolvo_decide.proofs.clause_states.ClauseStates.open_from.Given as goal
 
 -- no clause up to here is open
 abbrev pub invariant-loop-self : goal.invariant-loop-self
 invariant-loop-self l = record {
   behind : l.from ≤ l.position;
-  passed : (i : ℕ) → l.from ≤ i → i < l.position → is_open_state (state_at l.self i) ≡ false;
+  passed : AreClosed l.self l.from l.position;
   same : l.self ≡ l.initial.self;
 }
 
