@@ -1,6 +1,6 @@
--- How kinds of clauses are stored. Each clause has the place of an entry, which digits that follow each other share.
+-- How kinds of clauses are stored. Each entry has where its clauses end: digits that follow each other share one.
 -- A need under a condition lies in a list of its own, by its index.
-use Rattle.std.specs.Prelude.{ℕ, zero, suc, ◌+◌, ◌%◌, ◌<◌, List, [], ◌∷◌, length, slice_get, Option, Some, None}
+use Rattle.std.specs.Prelude.{◌≡◌, ℕ, zero, suc, ◌+◌, ◌-◌, ◌%◌, ◌<◌, ◌≤◌, List, [], ◌∷◌, ◌++◌, length, slice_get, slice_index_or, Option, Some, None}
 use Rattle.resolvo_state.specs.declared.clause_kind.Need.{Need}
 use Rattle.resolvo_state.specs.declared.clause_kind.ClauseKind.{ClauseKind}
 use Rattle.resolvo_state.specs.declared.clause_kind.ClauseKind.TheVariants.{InstallRoot, Requires, RequiresIf, RequiresGate, GateRequires, Constrains, ConstrainsParent, ConstrainsExcluded, Lock, Excluded, ForbidMultipleInstances, AnyOf, AnyMatch, Learnt}
@@ -33,27 +33,37 @@ kind_in needs (AnyOf n s) = Kind.IsThere n s
 kind_in needs (AnyMatch v s) = Kind.Matches v s
 kind_in needs Learnt = Kind.Learnt
 
--- the bit of the clause of this number, where it is counted from clause 0
-abbrev pub bit_at : ℕ → ℕ → ℕ
-bit_at number bit = (bit + number % 4294967296) % 4294967296
+-- the bit of a later clause of an entry, the first of which has this one
+abbrev pub bit_after : ℕ → ℕ → ℕ
+bit_after zero bit = bit
+bit_after (suc k) bit = (bit + suc k % 4294967296) % 4294967296
 
--- what is stored of the clause of this number, by its entry
-abbrev pub kind_at_number : {N S : Type 0} → ℕ → ClauseKind N S → ClauseKind N S
-kind_at_number number (ForbidMultipleInstances n s place bit) = ForbidMultipleInstances n s place (bit_at number bit)
-kind_at_number number other = other
+-- what is stored of a later clause of an entry
+abbrev pub kind_after : {N S : Type 0} → ℕ → ClauseKind N S → ClauseKind N S
+kind_after k (ForbidMultipleInstances n s place bit) = ForbidMultipleInstances n s place (bit_after k bit)
+kind_after k other = other
 
--- its kind
-abbrev pub entry_kind : {N S : Type 0} → List (Need S) → ℕ → Option (ClauseKind N S) → Kind N S
-entry_kind needs number (Some x) = kind_in needs (kind_at_number number x)
-entry_kind needs number None = Kind.Learnt
+-- the kinds of so many clauses of an entry, from this one on
+abbrev pub run_kinds : {N S : Type 0} → List (Need S) → ClauseKind N S → ℕ → ℕ → List (Kind N S)
+run_kinds needs x k zero = []
+run_kinds needs x k (suc count) = kind_in needs (kind_after k x) ∷ run_kinds needs x (suc k) count
 
--- the kinds of the clauses from this number on, whose entries are at these places
-abbrev pub kinds_from : {N S : Type 0} → List (Need S) → List (ClauseKind N S) → ℕ → List ℕ → List (Kind N S)
-kinds_from needs entries number [] = []
-kinds_from needs entries number (p ∷ places) = entry_kind needs number (slice_get entries p) ∷ kinds_from needs entries (suc number) places
+-- the kinds of the clauses from this number on: those of each entry end before one of the ends
+abbrev pub kinds_from : {N S : Type 0} → List (Need S) → ℕ → List (ClauseKind N S) → List ℕ → List (Kind N S)
+kinds_from needs start [] ends = []
+kinds_from needs start (x ∷ entries) [] = []
+kinds_from needs start (x ∷ entries) (e ∷ ends) = run_kinds needs x 0 (e - start) ++ kinds_from needs e entries ends
 
 abbrev pub kinds_in : {N S : Type 0} → List (Need S) → List (ClauseKind N S) → List ℕ → List (Kind N S)
-kinds_in needs entries places = kinds_from needs entries 0 places
+kinds_in needs entries ends = kinds_from needs 0 entries ends
+
+-- where the clauses of an entry begin, by the ends
+abbrev pub begin_after : ℕ → List ℕ → ℕ → ℕ
+begin_after start ends zero = start
+begin_after start ends (suc p) = slice_index_or ends p 0
+
+abbrev pub begin_at : List ℕ → ℕ → ℕ
+begin_at ends p = begin_after 0 ends p
 
 -- the kinds of so many digits of the solvable's place, from this one on
 abbrev pub digit_kinds : {N S : Type 0} → N → S → ℕ → ℕ → ℕ → List (Kind N S)
@@ -69,15 +79,16 @@ abbrev pub AreWithin : {N S : Type 0} → ℕ → List (ClauseKind N S) → Type
 AreWithin count [] = Unit {0}
 AreWithin count (x ∷ stored) = IsWithin count x × AreWithin count stored
 
--- each place is below this one
-abbrev pub AreBelow : ℕ → List ℕ → Type 0
-AreBelow count [] = Unit {0}
-AreBelow count (p ∷ places) = (p < count) × AreBelow count places
+-- none of the ends is below the one before it
+abbrev pub AreRising : ℕ → List ℕ → Type 0
+AreRising start [] = Unit {0}
+AreRising start (e ∷ ends) = (start ≤ e) × AreRising e ends
 
--- each clause has an entry, and the needs that entries name are among so many
-pub record AreStored {N S : Type 0} (count : ℕ) (entries : List (ClauseKind N S)) (places : List ℕ) : Type 0 where
+-- each entry has an end, and the needs that entries name are among so many
+pub record AreStored {N S : Type 0} (count : ℕ) (entries : List (ClauseKind N S)) (ends : List ℕ) : Type 0 where
   pub within : AreWithin count entries
-  pub below : AreBelow (length entries) places
+  pub paired : length ends ≡ length entries
+  pub rising : AreRising 0 ends
 
 -- the kind names no need
 abbrev pub IsPlain : {N S : Type 0} → ClauseKind N S → Type 0

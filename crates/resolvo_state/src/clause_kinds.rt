@@ -1,7 +1,7 @@
 //! The kind of each clause, by the clause's number. The model is the list of kinds, and the needs
 //! that some of them name. The digits of a place share an entry.
-ghost use Rattle.std.specs.Prelude.{◌≡◌, ℕ, ◌<◌, ◌≤◌, [], ◌∷◌, ◌++◌, Some, length, slice_get, IfOk, OnOk, OnErr};
-ghost use Rattle.resolvo_state.specs.StoredKinds.{bit_at, kind_at_number, kind_in, plain_kind, digit_kinds, IsPlain, IsWithin};
+ghost use Rattle.std.specs.Prelude.{◌≡◌, ◌+◌, ◌-◌, ◌<◌, ◌≤◌, [], ◌∷◌, ◌++◌, Some, length, slice_get, slice_index_or, IfOk, OnOk, OnErr};
+ghost use Rattle.resolvo_state.specs.StoredKinds.{bit_after, kind_after, kind_in, plain_kind, digit_kinds, begin_at, IsPlain, IsWithin};
 ghost use Rattle.resolvo_state.specs.Kinds.{Needs};
 
 use crate::clause_kind::{ClauseKind, Need};
@@ -11,9 +11,9 @@ use std::marker::Model;
 /// The kinds of clauses, in the order of the clauses' numbers.
 #[derive(Drop)]
 pub struct ClauseKinds<N, S> {
-    /// Where the entry of each clause is.
-    places: Vec<u32>,
-    /// Kinds. The bit of a digit is counted from clause 0: a clause's own number is added to it.
+    /// Where the clauses of each entry end. They begin where those of the entry before it end.
+    ends: Vec<u32>,
+    /// Kinds, each that of the first clause of an entry. A later clause has a higher bit.
     entries: Vec<ClauseKind<N, S>>,
     needs: Vec<Need<S>>,
 }
@@ -26,11 +26,11 @@ impl<N, S> Model for ClauseKinds<N, S> {
 
     ghost view = { λ k.
         record {
-          items = kinds_in k.needs.items k.entries.items k.places.items;
+          items = kinds_in k.needs.items k.entries.items k.ends.items;
           needs = k.needs.items;
         } };
 
-    ghost invariant = { λ k. AreStored (length k.needs.items) k.entries.items k.places.items };
+    ghost invariant = { λ k. AreStored (length k.needs.items) k.entries.items k.ends.items };
 }
 
 impl<N: Copy, S: Copy> ClauseKinds<N, S> {
@@ -39,7 +39,7 @@ impl<N: Copy, S: Copy> ClauseKinds<N, S> {
         ensures items { result.items ≡ [] }
     {
         ClauseKinds {
-            places: Vec::new(alloc),
+            ends: Vec::new(alloc),
             entries: Vec::new(alloc),
             needs: Vec::new(alloc),
         }
@@ -49,7 +49,7 @@ impl<N: Copy, S: Copy> ClauseKinds<N, S> {
     pub fn len(&self) -> usize
         ensures { result ≡ length self.now.items }
     {
-        self.places.len()
+        begin_of(self.ends.as_slice(), self.ends.len()) as usize
     }
 
     /// Adds the kind of the next clause, which names no need.
@@ -57,8 +57,7 @@ impl<N: Copy, S: Copy> ClauseKinds<N, S> {
         requires { IsPlain kind }
         ensures items { OnOk result (self.new.items ≡ self.old.items ++ plain_kind kind ∷ []) }
     {
-        let entry = entry_of(kind, self.places.len());
-        push_entry(&mut self.places, &mut self.entries, entry)?;
+        push_entry(&mut self.ends, &mut self.entries, kind, 1)?;
         Ok(())
     }
 
@@ -70,7 +69,7 @@ impl<N: Copy, S: Copy> ClauseKinds<N, S> {
         let index = index_after(self.needs.len())?;
         self.needs.push(need)?;
         let entry = ClauseKind::RequiresIf { need: index };
-        push_entry(&mut self.places, &mut self.entries, entry)?;
+        push_entry(&mut self.ends, &mut self.entries, entry, 1)?;
         Ok(())
     }
 
@@ -87,20 +86,13 @@ impl<N: Copy, S: Copy> ClauseKinds<N, S> {
         ensures items { OnOk result (self.new.items
             ≡ self.old.items ++ digit_kinds name solvable place 0 count) }
     {
-        let entries = self.entries.len();
-        let clauses = self.places.len();
-        if usize::MAX - clauses < count {
-            return Err(AllocError);
-        }
-        let last = index_after(entries)?;
-        let bit = bit_back(0, clauses);
-        self.entries.push(ClauseKind::ForbidMultipleInstances {
+        let entry = ClauseKind::ForbidMultipleInstances {
             name,
             solvable,
             place,
-            bit,
-        })?;
-        self.places.resize(clauses + count, last)?;
+            bit: 0,
+        };
+        push_entry(&mut self.ends, &mut self.entries, entry, count)?;
         Ok(())
     }
 
@@ -110,8 +102,10 @@ impl<N: Copy, S: Copy> ClauseKinds<N, S> {
         ensures kind { slice_get self.now.items number ≡ Some (kind_in self.now.needs result) }
         ensures within { IsWithin (length self.now.needs) result }
     {
-        let place = self.places[number] as usize;
-        kind_of(self.entries[place], number)
+        let ends = self.ends.as_slice();
+        let place = entry_of(ends, number);
+        let begin = begin_of(ends, place) as usize;
+        later_kind(self.entries[place], number - begin)
     }
 
     /// A need that a kind names, by its index.
@@ -123,53 +117,63 @@ impl<N: Copy, S: Copy> ClauseKinds<N, S> {
     }
 }
 
-/// Adds an entry, and its place for the next clause.
+/// Adds an entry for so many clauses.
 fn push_entry<N: Copy, S: Copy>(
-    places: &mut Vec<u32>,
+    ends: &mut Vec<u32>,
     entries: &mut Vec<ClauseKind<N, S>>,
     entry: ClauseKind<N, S>,
+    count: usize,
 ) -> Result<(), AllocError>
+    requires { count ≤ 4294967296 }
     ensures entries { OnOk result (entries.new.items ≡ entries.old.items ++ entry ∷ []) }
-    ensures places { OnOk result (places.new.items
-        ≡ places.old.items ++ length entries.old.items ∷ []) }
+    ensures ends { OnOk result (ends.new.items
+        ≡ ends.old.items ++ (begin_at ends.old.items (length ends.old.items) + count) ∷ []) }
     ensures err_entries { OnErr result (entries.new.items ≡ entries.old.items) }
-    ensures err_places { OnErr result (places.new.items ≡ places.old.items) }
+    ensures err_ends { OnErr result (ends.new.items ≡ ends.old.items) }
 {
-    let place = index_after(entries.len())?;
-    places.push(place)?;
+    let end = index_after(begin_of(ends, ends.len()) as usize + count)?;
+    ends.push(end)?;
     match entries.push(entry) {
         Ok(()) => Ok(()),
         Err(error) => {
-            places.pop();
+            ends.pop();
             Err(error.into())
         }
     }
 }
 
-/// The entry of a kind, where it is that of the clause of this number.
-fn entry_of<N: Copy, S: Copy>(kind: ClauseKind<N, S>, number: usize) -> ClauseKind<N, S>
-    ensures kind { kind_at_number number result ≡ kind }
-    ensures within { (count : ℕ) → IsWithin count kind → IsWithin count result }
+/// Where the clauses of an entry begin, by the ends.
+fn begin_of(ends: &[u32], place: usize) -> u32
+    requires { place ≤ length ends.now }
+    ensures { result ≡ begin_at ends.now place }
 {
-    match kind {
-        ClauseKind::ForbidMultipleInstances {
-            name,
-            solvable,
-            place,
-            bit,
-        } => ClauseKind::ForbidMultipleInstances {
-            name,
-            solvable,
-            place,
-            bit: bit_back(bit, number),
-        },
-        other => other,
-    }
+    if place == 0 { 0 } else { ends[place - 1] }
 }
 
-/// The kind of the clause of this number, where this is its entry.
-fn kind_of<N: Copy, S: Copy>(entry: ClauseKind<N, S>, number: usize) -> ClauseKind<N, S>
-    ensures { result ≡ kind_at_number number entry }
+/// The entry of a clause, by a binary search.
+fn entry_of(ends: &[u32], number: usize) -> usize
+    requires some { 0 < length ends.now }
+    requires last { number < slice_index_or ends.now (length ends.now - 1) 0 }
+    ensures within { result < length ends.now }
+    ensures above { begin_at ends.now result ≤ number }
+    ensures below { number < slice_index_or ends.now result 0 }
+{
+    let mut low = 0;
+    let mut high = ends.len() - 1;
+    while low < high {
+        let middle = low + (high - low) / 2;
+        if ends[middle] as usize <= number {
+            low = middle + 1;
+        } else {
+            high = middle;
+        }
+    }
+    low
+}
+
+/// The kind of a clause that is so many after the first one of this entry.
+fn later_kind<N: Copy, S: Copy>(entry: ClauseKind<N, S>, after: usize) -> ClauseKind<N, S>
+    ensures { result ≡ kind_after after entry }
 {
     match entry {
         ClauseKind::ForbidMultipleInstances {
@@ -181,17 +185,21 @@ fn kind_of<N: Copy, S: Copy>(entry: ClauseKind<N, S>, number: usize) -> ClauseKi
             name,
             solvable,
             place,
-            bit: bit.wrapping_add((number % 4_294_967_296) as u32),
+            bit: later_bit(bit, after),
         },
         other => other,
     }
 }
 
-/// A bit as it is counted from clause 0, where it is that of the clause of this number.
-fn bit_back(bit: u32, number: usize) -> u32
-    ensures { bit_at number result ≡ bit }
+/// The bit of a clause that is so many after one with this bit.
+fn later_bit(bit: u32, after: usize) -> u32
+    ensures { result ≡ bit_after after bit }
 {
-    bit.wrapping_sub((number % 4_294_967_296) as u32)
+    if after == 0 {
+        bit
+    } else {
+        bit.wrapping_add((after % 4_294_967_296) as u32)
+    }
 }
 
 /// The index after so many.
