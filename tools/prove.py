@@ -4,7 +4,8 @@
 Usage: tools/prove.py [--anew] [--object] [CRATE]     (default: resolve)
 
 `rt run` proves one library after the other. This makes a copy of the crate with what lies below it, without wrong bodies and without
-the crates of tests, and runs the gate (`rt ci`) over the copy. As many proofs run side by side as there are processors with 4 GB each.
+the crates of tests, and runs the gate (`rt ci`) over the copy. As many proofs run side by side as there are processors with 4 GB each,
+by the memory that is free as a proof begins.
 The proof that the longest chain of others waits for has two of them, or all where it is alone; how long a chain is, tools/minutes.txt says.
 The others leave it as many of four as it has, so that the next of its chain has them too. `.ci/run` runs the whole gate in this order
 (`--gate`).
@@ -31,6 +32,8 @@ FILES = ("stdin", "stdout", "args", "status")
 MEMORY = 4_000_000_000  # bytes of a proof by one processor
 MOST = 4  # processors of one proof
 KEPT = 2  # processors that the longest chain keeps, where there are as many for the others
+THREADS = 64  # tasks that may wait for their proofs at once
+PAGE = os.sysconf("SC_PAGE_SIZE")
 LINES = 1500  # lines that are proved in a minute, where no run is known
 
 # what it waits for, its lines, its memory, and what does it with so many processors
@@ -127,15 +130,35 @@ def next_tasks(ready: Sequence[Any], running: Dict[Any, int], chain: Dict[Any, f
         yield key, jobs
 
 
-def side_by_side(tasks: Dict[Any, Task], chain: Dict[Any, float], lanes: int, most: int) -> Dict[Any, Any]:
-    """Does each task once those that it waits for are done, those with the longest chain first; what each gave."""
+def held(root: int) -> int:
+    """The bytes that the processes below this one hold."""
+    below: Dict[int, List[int]] = {}
+    sizes: Dict[int, int] = {}
+    for name in filter(str.isdigit, os.listdir("/proc")):
+        try:
+            with open(f"/proc/{name}/stat", encoding="utf-8", errors="replace") as file:
+                parent = int(file.read().rpartition(")")[2].split()[1])
+            with open(f"/proc/{name}/statm", encoding="utf-8") as file:
+                sizes[int(name)] = int(file.read().split()[1]) * PAGE
+        except (OSError, IndexError, ValueError):
+            continue  # it has ended
+        below.setdefault(parent, []).append(int(name))
+    found = list(below.get(root, ()))
+    for process in found:
+        found += below.get(process, ())
+    return sum(sizes[process] for process in found)
+
+
+def side_by_side(tasks: Dict[Any, Task], chain: Dict[Any, float], lanes: Callable[[], int], most: int) -> Dict[Any, Any]:
+    """Does each task once those that it waits for are done, those with the longest chain first; what each gave. How many processors there
+    are is asked anew whenever a task may begin."""
     left = sorted(tasks, key=lambda key: -chain[key])
     running: Dict[Future, Tuple[Any, int]] = {}
     given: Dict[Any, Any] = {}
-    with ThreadPoolExecutor(lanes) as pool:
+    with ThreadPoolExecutor(THREADS) as pool:
         while left or running:
             ready = [key for key in left if all(below in given for below in tasks[key][0])]
-            for key, jobs in list(next_tasks(ready, dict(running.values()), chain, lanes, most)):
+            for key, jobs in list(next_tasks(ready, dict(running.values()), chain, lanes(), most)):
                 left.remove(key)
                 running[pool.submit(tasks[key][3], given, jobs)] = key, jobs
             for future in wait(running, return_when=FIRST_COMPLETED).done:
@@ -168,10 +191,14 @@ def gate(folder: str, flags: List[str]) -> int:
     os.chdir(folder)
     module = rt_module()
     number = os.environ.get("RT_JOBS", "")
-    lanes = int(number) if number.isdigit() else max(1, min(module.processors(), int(module.free() // MEMORY)))
     most = 1 if number.isdigit() else MOST
     with open(os.path.join(TOP, "tools", "minutes.txt"), encoding="utf-8") as file:
         known = minutes(file.read())
+
+    def lanes() -> int:
+        if number.isdigit():
+            return int(number)
+        return max(1, min(module.processors(), int((module.free() + held(os.getpid())) // MEMORY)))
 
     def in_lanes(tasks: Dict[Any, Task]) -> Dict[Any, Any]:
         weights = {key: known.get(key[0], task[1] / LINES) if key[1] == "proof" else 0.0 for key, task in tasks.items()}

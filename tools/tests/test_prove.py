@@ -1,10 +1,12 @@
 """Which crates are proved with a program."""
 import os
+import subprocess
+import sys
 import tempfile
 import unittest
 from typing import List, Tuple
 
-from tools.prove import TOP, Task, chains, closure, copy, is_archive, lines_of, minutes, next_tasks, side_by_side
+from tools.prove import TOP, Task, chains, closure, copy, held, is_archive, lines_of, minutes, next_tasks, side_by_side
 
 LISTED = """# the lowest
 low:
@@ -57,7 +59,7 @@ class Order(unittest.TestCase):
             return waits[name], 0, 0, lambda given, jobs: done.append((name, jobs))
 
         tasks = {name: task(name) for name in ("top", "short", "long", "low")}
-        side_by_side(tasks, chains(tasks, weights), lanes, most)
+        side_by_side(tasks, chains(tasks, weights), lambda: lanes, most)
         return done
 
     def test_the_longest_chain_is_first_and_has_two(self) -> None:
@@ -74,6 +76,25 @@ class Order(unittest.TestCase):
         chain = {"long": 5.0, "short": 1.0, "edit": 0.0}
         self.assertEqual(list(next_tasks(["long", "short", "edit"], {}, chain, 2, 4)), [("long", 1), ("short", 1)])
         self.assertEqual(list(next_tasks(["long"], {}, chain, 2, 4)), [("long", 2)])
+
+    def test_processors_that_come_later_are_used(self) -> None:
+        begun: List[int] = []
+
+        def task(name: str, waits: List[str]) -> Task:
+            return waits, 0, 0, lambda given, jobs: begun.append(jobs)
+
+        tasks = {"low": task("low", []), "top": task("top", ["low"])}
+        free = iter((1, 3))
+        side_by_side(tasks, chains(tasks, {"low": 1.0, "top": 1.0}), lambda: next(free, 3), 4)
+        self.assertEqual(begun, [1, 3])
+
+    def test_what_a_proof_holds_counts_as_free(self) -> None:
+        words = [sys.executable, "-c", "block = bytearray(50_000_000); print(flush=True); input()"]
+        with subprocess.Popen(words, stdin=subprocess.PIPE, stdout=subprocess.PIPE) as child:
+            assert child.stdin and child.stdout
+            child.stdout.readline()
+            self.assertGreater(held(os.getpid()), 50_000_000)
+            child.stdin.close()
 
     def test_one_processor_each(self) -> None:
         self.assertEqual(self.run_by(1, 1), [("low", 1), ("long", 1), ("short", 1), ("top", 1)])
