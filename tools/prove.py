@@ -32,7 +32,7 @@ FILES = ("stdin", "stdout", "args", "status")
 MEMORY = 4_000_000_000  # bytes of a proof by one processor
 MOST = 4  # processors of one proof
 KEPT = 2  # processors that the longest chain keeps, where there are as many for the others
-THREADS = 64  # tasks that may wait for their proofs at once
+THREADS = 64  # tasks that may run at once, whatever RT_JOBS says
 PAGE = os.sysconf("SC_PAGE_SIZE")
 LINES = 1500  # lines that are proved in a minute, where no run is known
 
