@@ -8,12 +8,11 @@ use Rattle.std.specs.List.{position, position_or_len}
 use Rattle.std.proofs.lemmas.List.{take-append-drop, drop_more, get_or-take, length-take, take_rest, get_or_default, drop_all}
 use Rattle.std.proofs.lemmas.List.Quantifiers.{position-Some}
 use Rattle.std.proofs.lemmas.List.Sums.{fails_before_first, sum_by-cons}
-use Rattle.std.proofs.Math.Seq.{take-append_seam}
 use Rattle.std.proofs.lemmas.Bool.{eqb-true, ltb-false}
 use Rattle.resolve_check.proofs.Elements.{only_one}
 use Rattle.resolvo_text.specs.Lines.{lines_of, newlines, is_newline}
 use Rattle.resolvo_text.proofs.LineLemmas.{lines_of-line, lines_of-whole}
-use Rattle.resolve_check.specs.Input.{parting, IsAbove, IsSplit, parted, parted_at_end, undivided, IsFirstLine}
+use Rattle.resolve_check.specs.Input.{parting, IsAbove, IsSplit, undivided, IsFirstLine}
 
 -- a text that ends in a newline has a first line
 has_line : (a : List ℕ) → (l : List ℕ) × (ls : List (List ℕ)) × (lines_of (a ++ 10 ∷ []) ≡ l ∷ ls)
@@ -91,21 +90,6 @@ never_ends text e =
     none_from_test false n e = refl
 
 -- ---- parting the input
-
-prefix_of : (input above rest : List ℕ) (start : ℕ) → input ≡ above ++ rest → length above ≡ start → take start input ≡ above
-prefix_of input above rest start whole long = ap (λ (n : ℕ). take n input) (sym long) ∙ ap (take (length above)) whole ∙ take-append_seam above rest
-
-pub parted_below : (input above rest line below : List ℕ) (start : ℕ) → IsAbove above → input ≡ above ++ rest → rest ≡ line ++ 10 ∷ below → line ≡ parting → length above ≡ start
-    → IsSplit input (take start input) below
-parted_below input above rest line below start is_above whole first is long =
-    let prefix : take start input ≡ above = prefix_of input above rest start whole long in
-    subst (λ (c : List ℕ). IsSplit input c below) (sym prefix) (parted is_above (whole ∙ ap (λ (r : List ℕ). above ++ r) (first ∙ ap (λ (l : List ℕ). l ++ 10 ∷ below) is)))
-
-pub parted_nothing_below : (input above rest line none : List ℕ) (start : ℕ) → IsAbove above → input ≡ above ++ rest → rest ≡ line → line ≡ parting → length above ≡ start → none ≡ []
-    → IsSplit input (take start input) none
-parted_nothing_below input above rest line none start is_above whole first is long nothing =
-    let prefix : take start input ≡ above = prefix_of input above rest start whole long in
-    subst (λ (c : List ℕ). IsSplit input c none) (sym prefix) (parted_at_end is_above (whole ∙ ap (λ (r : List ℕ). above ++ r) (first ∙ is)) nothing)
 
 pub not_parted : (input above line none : List ℕ) → IsAbove above → input ≡ above ++ line → newlines line ≡ 0 → (line ≡ parting → ⊥) → none ≡ [] → IsSplit input input none
 not_parted input above line none is_above whole each other nothing =

@@ -8,7 +8,7 @@ use Rattle.resolvo_text.specs.Matches.{Set}
 use Rattle.resolvo_text.specs.Spelling.{IsNumber}
 use Rattle.resolvo_catalogue_core.specs.Grammar.{line_at, AreCatalogueLines}
 use Rattle.resolvo_catalogue_core.specs.Answers as answers
-use Rattle.resolvo_catalogue_core.specs.Answers.{Answer, IsReasoned}
+use Rattle.resolvo_catalogue_core.specs.Answers.{IsReasoned}
 use Rattle.resolvo_catalogue_core.specs.Listed.{listed}
 use Rattle.resolvo_terms.proofs.Places.{contains_from_at}
 use Rattle.resolve_order.specs.Order.{AreTurns}

@@ -12,11 +12,11 @@ use Rattle.resolvo_catalogue_core.specs.Answers.{Reason, ForRequest, ForVersion}
 use Rattle.resolvo_catalogue_core.specs.Listed.{listed, members}
 use Rattle.resolvo_catalogue_core.specs.declared.rule.VersionNo.{VersionNo}
 use Rattle.resolvo_terms.proofs.Places.{at_from_contains, no_element, first_element, element_cases}
-use Rattle.resolve_order.specs.Order.{line_named, IsAsked, AreReached, chosen_by, chosen_in, wishes_in}
+use Rattle.resolve_order.specs.Order.{line_named, IsAsked, AreReached}
 use Rattle.resolve_order.specs.Order as texts
 use Rattle.resolve_order.proofs.Elements.{map_element, mapped_element}
 use Rattle.resolvo_pool_core.specs.declared.requirement.ConditionalRequirement.{ConditionalRequirement}
-use Rattle.resolvo_pool_core.specs.RuleKeeping.{Rules, is_in, is_forbidden, meets, binds, is_member, rules_for, IsSingle, IsRuleKeeping, IsExemptKeeping, IsReached}
+use Rattle.resolvo_pool_core.specs.RuleKeeping.{Rules, is_in, meets, binds, is_member, rules_for, IsSingle, IsReached}
 use Rattle.resolvo_pool_core.specs.RuleKeeping as kept
 use Rattle.resolvo_catalogue.specs.Ids.{SolvableId, IsNeed, solvables_of}
 use Rattle.resolvo_terms.specs.Terms.{AreEach}

@@ -20,9 +20,6 @@ use Rattle.resolvo_judge.specs.Refusal.{step_forbids}
 abbrev pub AreSame : Set → Set → Type 0
 AreSame a b = (v : Version) → Contains a v ↔ Contains b v
 
-pub same_turned : (a b : Set) → AreSame a b → AreSame b a
-same_turned a b h v = ((h v).1, (h v).0)
-
 -- a property of each element
 all_from : {X : Type 0} (p : X → Bool) (xs : List X) → ((x : X) → Contains xs x → p x ≡ true) → list_all p xs ≡ true
 all_from p [] h = refl

@@ -20,7 +20,7 @@ use Rattle.resolvo_catalogue_core.specs.declared.rule.VersionNo.{VersionNo}
 use Rattle.resolvo_terms.proofs.Places.{at_from_contains}
 use Rattle.resolvo_catalogue_core.proofs.TableSteps.{numbered}
 use Rattle.resolve_order.specs.Order as order
-use Rattle.resolve_order.specs.Order.{AreInOrder, IsTurn, IsOneTurn, AreTurns, AreReached, wish_entry, chosen_by, chosen_in, wishes_in}
+use Rattle.resolve_order.specs.Order.{AreInOrder, IsOneTurn, AreTurns, AreReached, wish_entry, chosen_by, chosen_in, wishes_in}
 use Rattle.resolve_order.specs.View.{wish_at, turn_of, turns_of, IsWishOf, AreWishesOf, AreTurnsOf}
 use Rattle.resolve_order.specs.declared.entry.Turn.{Turn}
 use Rattle.resolve_order.specs.declared.entry.Turn.TheVariants as turn

@@ -3,7 +3,6 @@ use Rattle.std.proofs.Common.{◌≡◌, ◌≤◌, ◌+◌, ℕ, List, Option, 
 use Rattle.std.specs.Prelude.{◌↔◌}
 use Rattle.resolvo_text.specs.Line.{Line}
 use Rattle.resolvo_text.specs.Matches.{Set}
-use Rattle.resolvo_catalogue_core.specs.Answers.{entries_of}
 use Rattle.resolvo_catalogue_core.specs.Sets.{IsRuleKeeping}
 use Rattle.resolvo_catalogue_core.specs.Grammar.{IsRequestLine}
 use Rattle.resolvo_catalogue_core.proofs.GrammarLaws.{catalogue_fault, one_catalogue, one_request, request_fault}

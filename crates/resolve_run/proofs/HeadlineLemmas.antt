@@ -1,9 +1,9 @@
 -- What a run writes is the headline of its texts.
-use Rattle.std.proofs.Common.{◌≡◌, ℕ, List}
+use Rattle.std.proofs.Common.{ℕ, List}
 use Rattle.resolvo_text.specs.Line.{Line}
 use Rattle.resolve_answer.proofs.HeadlineLemmas.{is_right}
 use Rattle.resolve_check.specs.declared.outcome.Outcome.{Outcome}
-use Rattle.resolve_run.specs.Headline.{IsTextFor, IsHeadline, IsRightText, catalogue_fault, request_fault, grammatical}
+use Rattle.resolve_run.specs.Headline.{IsHeadline, IsRightText, catalogue_fault, request_fault, grammatical}
 use Rattle.resolve_run.specs.Answer.{IsAnswer, IsAnswerOfLines}
 
 right_text : (catalogue request : List Line) (ended : Outcome) (output : List ℕ) → IsAnswerOfLines catalogue request ended output → IsRightText catalogue request ended output

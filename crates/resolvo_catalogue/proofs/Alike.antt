@@ -101,9 +101,6 @@ module _ (p : Provider) (versions : List Version) (are : AreVersions p.ids versi
   both true c = refl
   both false c = refl
 
-  but_not : (b c : Bool) → (b && not (b && c)) ≡ (b && not (b && c))
-  but_not b c = refl
-
   -- the version set admits the solvable of a version exactly if the SPEC matches it
   pub admits : (w : VersionSetId) (s : Spec) (x : SolvableId) (v : Version) → IsSpec p.ids w s → slice_get versions x.raw ≡ Some v → matches p w x ≡ lines.matches s v
   admits w s x v spec e =

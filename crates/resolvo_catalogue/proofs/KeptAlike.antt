@@ -9,7 +9,7 @@ use Rattle.std.proofs.lemmas.Slice.Eq.{bytes_eq-Decides}
 use Rattle.std.proofs.lemmas.Option.{slice_get-get_or, slice_get_within}
 use Rattle.resolvo_text.specs.Line.{Version, Spec, Cond, Line, Skipped, Listed, Needs, Limits, Unknown, Lock, Favour, Exclude, Many, Wish}
 use Rattle.resolvo_text.specs.Matches as lines
-use Rattle.resolvo_text.specs.Matches.{Set, same_version, same_package}
+use Rattle.resolvo_text.specs.Matches.{Set, same_package}
 use Rattle.resolvo_catalogue_core.specs.Grammar.{line_at, owner_of, AreRequestLines}
 use Rattle.resolvo_catalogue_core.specs.Listed.{listed}
 use Rattle.resolvo_catalogue_core.specs.Rules as texts
@@ -23,7 +23,7 @@ use Rattle.resolvo_pool_core.specs.declared.id.StringId.{StringId}
 use Rattle.resolvo_pool_core.specs.declared.id.VersionSetId.{VersionSetId}
 use Rattle.resolvo_pool_core.specs.declared.requirement.ConditionalRequirement.{ConditionalRequirement}
 use Rattle.resolvo_pool_core.specs.Provider as pool
-use Rattle.resolvo_pool_core.specs.RuleKeeping.{Rules, rules_of, is_many, is_unknown, is_in, is_match, is_outside, meets, binds, is_forbidden, locks_out, listing_for, rules_for, IsRuleKeeping, IsSingle, Obeys}
+use Rattle.resolvo_pool_core.specs.RuleKeeping.{Rules, is_many, is_unknown, is_in, is_outside, meets, binds, is_forbidden, locks_out, listing_for, rules_for, IsRuleKeeping}
 use Rattle.resolvo_pool_core.specs.RuleKeeping as kept
 use Rattle.resolvo_terms.specs.Terms.{NameId, AreEach}
 use Rattle.resolvo_catalogue.specs.Ids.{SolvableId, solvable_id, solvables_of, IsNeed, IsSpec, IsSolvable, IsPackage, Interns, AreSound}

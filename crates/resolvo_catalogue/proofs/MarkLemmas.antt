@@ -254,18 +254,6 @@ marked_none ids lines before favours versions marks n distinct h none = go (line
     go None none = rw (append-nil before) h
     go (Some l) none = let named = names_none l (none l refl) in marked_other ids before favours versions marks distinct h l named.0 named.1
 
--- no line marks a version that has no mark
-pub unmarked_each : (ids : Ids) (versions : List Version) (marks : List CandidateFlags) → length marks ≡ length versions → ((k : ℕ) (m : CandidateFlags) → slice_get marks k ≡ Some m → m ≡ record { locked = false; favored = false; excluded = None; line = 0 }) → AreMarked ids [] [] versions marks
-unmarked_each ids versions marks long none = record {
-  as_many = long;
-  each = λ k m v e f. rw (none k m e) (record {
-    locked = (λ is. absurd (false≢true is), λ has. absurd (no_element _ has));
-    favored = (λ is. absurd (false≢true is), λ has. absurd (no_element _ has));
-    excluded = λ word has. no_element _ has;
-    line = λ w is. absurd cc;
-  });
-}
-
 -- where no line marks a version, the marks of some lines are those of all
 contained : (n : ℕ) (lines : List Line) (l : Line) → Contains (take n lines) l → Contains lines l
 contained zero lines l h = absurd (no_element l h)

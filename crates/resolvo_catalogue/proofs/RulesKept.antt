@@ -5,7 +5,7 @@ use Rattle.std.specs.List.{list_any, find, flat_map}
 use Rattle.std.proofs.lemmas.Bool.{cases_Bool, false≢true, cases_lt}
 use Rattle.resolvo_text.specs.Line.{Version, Spec, Cond, Line, Listed, Needs, Limits, Unknown, Lock, Exclude}
 use Rattle.resolvo_text.specs.Matches as lines
-use Rattle.resolvo_text.specs.Matches.{Set, same_version, same_package}
+use Rattle.resolvo_text.specs.Matches.{Set, same_version}
 use Rattle.resolvo_catalogue_core.specs.Grammar.{line_at, owner_of, AreCatalogueLines}
 use Rattle.resolvo_catalogue_core.specs.Listed.{listed}
 use Rattle.resolvo_catalogue_core.proofs.TableLemmas.{listed_has}

@@ -241,17 +241,6 @@ mapped_among ns vs m start end s t ordered finds adds n = (to, from)
 -- ---- tests that are equal
 
 module _ (ns : List ℕ) (vs : List VersionNo) (t : ℕ → Bool) where
-  pub by_none : (s : BTreeSet ℕ) → ((k : ℕ) → t k ≡ false) → AddsEach s (IsAmong ns vs t) s
-  by_none s none n = (λ h. inl h, λ h. elim h [ inl a ↦ a | inr p ↦ absurd (false_true (sym (none p.0) ∙ p.1)) ])
-    where
-      false_true : false ≡ true → ⊥
-      false_true e = cc
-
-  pub by_one : (u : ℕ → Bool) (s after : BTreeSet ℕ) → ((k : ℕ) → u k ≡ t k) → AddsEach s (IsAmong ns vs u) after → AddsEach s (IsAmong ns vs t) after
-  by_one u s after same adds n = (
-    λ h. elim ((adds n).0 h) [ inl a ↦ inl a | inr p ↦ inr (p.0, sym (same p.0) ∙ p.1, p.2) ],
-    λ h. (adds n).1 (elim h [ inl a ↦ inl a | inr p ↦ inr (p.0, same p.0 ∙ p.1, p.2) ]),
-  )
 
   pub by_two : (u w : ℕ → Bool) (s middle after : BTreeSet ℕ) → ((k : ℕ) → (u k || w k) ≡ t k) → AddsEach s (IsAmong ns vs u) middle → AddsEach middle (IsAmong ns vs w) after → AddsEach s (IsAmong ns vs t) after
   by_two u w s middle after same first second n = (

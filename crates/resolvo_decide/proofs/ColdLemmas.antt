@@ -1,5 +1,5 @@
 -- The cold clauses: what the pick may skip, and what keeps them cold.
-use Rattle.std.proofs.Common.{◌≡◌, ℕ, zero, suc, ◌+◌, ◌-◌, ◌<◌, ◌≤◌, ◌⊎◌, inl, inr, cond, Bool, true, false, List, [], ◌∷◌, ◌++◌, length, drop, Option, Some, None, Vec, Global, refl, sym, ◌∙◌, ap, subst, arith, eqb-true}
+use Rattle.std.proofs.Common.{◌≡◌, ℕ, zero, suc, ◌+◌, ◌-◌, ◌<◌, ◌≤◌, ◌⊎◌, inl, inr, cond, Bool, true, false, List, [], ◌∷◌, ◌++◌, length, drop, Option, Some, None, refl, sym, ◌∙◌, ap, subst, arith, eqb-true}
 use Rattle.std.specs.Prelude.{nat_lt, ◌==◌, ◌&&◌, ◌||◌, not, slice_get, is_some, Contains}
 use Rattle.std.specs.Option.{option_map}
 use Rattle.std.specs.List.{list_any, list_all, find}
@@ -17,7 +17,7 @@ use Rattle.resolvo_decide.specs.declared.cold_clauses.ColdClauses.{ColdClauses}
 use Rattle.resolvo_decide.specs.declared.undecided_clauses.UndecidedClauses.{UndecidedClauses}
 use Rattle.resolvo_decide.specs.States.{state_at, is_open_state, bit_of}
 use Rattle.resolvo_decide.specs.HotNames.{AreHot}
-use Rattle.resolvo_decide.specs.Cold.{IsKnownHot, AreCold, IsColdAt, HasColdBits, KeepsCold, KeepsColdAt, CanSkip}
+use Rattle.resolvo_decide.specs.Cold.{IsKnownHot, AreCold, HasColdBits, KeepsCold, CanSkip}
 use Rattle.resolvo_decide.specs.Needs.{literals_in, Fits}
 use Rattle.resolvo_decide.proofs.MarkLemmas.{bit_out}
 use Rattle.resolvo_decide.proofs.FitLemmas.{later_none, some_one, offer_beaten, pick_behind, sound_nothing}

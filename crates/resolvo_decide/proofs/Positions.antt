@@ -49,12 +49,6 @@ state_map common (x ∷ ss) (suc i) = state_map common ss i
 
 -- lists by index
 
-pub list_end : {X : Type 0} (ls : List (Vec X Global)) (p : Vec X Global) (v : ℕ) → p.items ≡ [] → items_or_none (slice_get (ls ++ p ∷ []) v) ≡ items_or_none (slice_get ls v)
-list_end [] p zero h = h
-list_end [] p (suc v) h = refl
-list_end (x ∷ ls) p zero h = refl
-list_end (x ∷ ls) p (suc v) h = list_end ls p v h
-
 pub places_read : {X : Type 0} (ps : List (Vec X Global)) (i : ℕ) (p : Vec X Global) → i < length ps → p ≡ get_or ps i p → items_or_none (slice_get ps i) ≡ p.items
 places_read [] i p h e = absurd (omega arith)
 places_read (x ∷ ps) zero p h e = ap (λ w. w.items) (sym e)

@@ -1,5 +1,5 @@
 -- Stores that are alike have alike answers, and stay alike.
-use Rattle.std.proofs.Common.{◌≡◌, ℕ, ◌+◌, ◌*◌, ◌/◌, ◌&&◌, min, not, cond, nat_lt, Bool, true, false, List, [], ◌∷◌, ◌++◌, length, Option, Some, None, is_some, refl, ◌∙◌, ap, subst}
+use Rattle.std.proofs.Common.{◌≡◌, ℕ, ◌+◌, ◌*◌, ◌/◌, ◌&&◌, min, not, cond, nat_lt, Bool, true, false, List, [], ◌∷◌, ◌++◌, length, Option, Some, None, is_some, refl, ◌∙◌, ap}
 use Rattle.std.specs.List.{list_all}
 use Rattle.std.specs.Option.{unwrap_or}
 use Rattle.std.specs.Prelude.{slice_get}
@@ -16,7 +16,7 @@ use Rattle.resolvo_store_core.specs.Walk.{pairs_after, lists_after}
 use Rattle.resolvo_store_core.specs.Pick.{first_broken_by, pick_by}
 use Rattle.resolvo_store.specs.Stored.{Stored, Like, names_in, condition_among}
 use Rattle.resolvo_store.specs.Changes.{candidates_from, same_requirement, all_but_last, last_undone, down_to, with_watcher, highest}
-use Rattle.resolvo_store.specs.Calls.{PlainAnswer, Became, Undone, Met, Falsified, Bad, Added, has_condition, has_candidates_for, has_learnt_in, has_clause, can_watch, can_add, can_register, can_assign, may, answer_to, changed_by, step, answer_of, after, answers_of, broken_in, picked_in, broken_or_next, LacksNumber}
+use Rattle.resolvo_store.specs.Calls.{PlainAnswer, Became, Undone, Met, Falsified, Bad, Added, has_condition, has_candidates_for, has_learnt_in, has_clause, can_watch, can_add, can_register, can_assign, may, answer_to, changed_by, step, answer_of, after, answers_of, broken_in, picked_in, broken_or_next}
 use Rattle.resolvo_store_core.specs.declared.decision.Entry.{Entry}
 use Rattle.resolvo_store_core.specs.declared.pick.NeedClause.{NeedClause}
 use Rattle.resolvo_store_core.specs.declared.pick.NextDecision.{NextDecision}

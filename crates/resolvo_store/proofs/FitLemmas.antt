@@ -1,17 +1,13 @@
 -- The lists that clauses name, by id and as plain lists.
-use Rattle.std.proofs.Common.{◌≡◌, ℕ, ◌&&◌, Bool, true, nat_lt, ◌∷◌, ◌++◌, Option, Some, None, refl, sym, ◌∙◌, ap, ltb-true}
-use Rattle.std.proofs.lemmas.Bool.{and_parts}
+use Rattle.std.proofs.Common.{◌≡◌, ℕ, ◌&&◌, Bool, ◌∷◌, ◌++◌, Option, Some, None, refl, ◌∙◌, ap}
 use Rattle.resolvo_pool_core.specs.declared.id.DenseId.{DenseId}
 use Rattle.resolvo_pool_core.specs.declared.id.DisjunctionTag.{DisjunctionTag}
 use Rattle.resolvo_pool_core.specs.declared.id.LearntClauseTag.{LearntClauseTag}
 use Rattle.resolvo_pool_core.specs.declared.requirement.Requirement.{Requirement}
-use Rattle.resolvo_pool_core.specs.ByRequirement.{slot_of}
-use Rattle.resolvo_store_core.specs.Signed.{Signed}
-use Rattle.resolvo_store_core.specs.Lists.{Named, has_candidates, has_disjunction, HasDisjunction, has_learnt}
-use Rattle.resolvo_store_core.specs.Clauses.{no, candidate_literals, literals_by, lists_exist, has_lists, is_own_in_range, OwnInRange, HasLists, Fits}
+use Rattle.resolvo_store_core.specs.Lists.{Named, has_candidates, has_disjunction, has_learnt}
+use Rattle.resolvo_store_core.specs.Clauses.{no, candidate_literals, literals_by, lists_exist, has_lists}
 use Rattle.resolvo_store.specs.Stored.{Kept, plain}
 use Rattle.resolvo_store.specs.Calls.{has_condition, has_candidates_for, has_learnt_in}
-use Rattle.resolvo_store_core.specs.declared.lists.FixedLists.{FixedLists}
 use Rattle.resolvo_store_core.specs.declared.store_clause.Clause.{Clause}
 use Rattle.resolvo_store_core.specs.declared.store_clause.Clause.TheVariants.{InstallRoot, Requires, ForbidMultipleInstances, Constrains, ConstrainsParent, ConstrainsExcluded, Lock, Learnt, Excluded, AnyOf}
 use Rattle.resolvo_store.proofs.Picks.{SameNames}

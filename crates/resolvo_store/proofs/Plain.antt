@@ -9,7 +9,6 @@ use Rattle.resolvo_pool_core.specs.declared.requirement.Requirement.{Requirement
 use Rattle.resolvo_pool_core.specs.declared.requirement.Requirement.TheVariants.{Single, Union}
 use Rattle.resolvo_pool_core.specs.Slots.{at, PutsSlot}
 use Rattle.resolvo_pool_core.specs.ByRequirement.{slot_of, PutsAt}
-use Rattle.resolvo_store_core.specs.Signed.{Signed}
 use Rattle.resolvo_store_core.specs.Trail.{assigned, value_in}
 use Rattle.resolvo_store_core.specs.Values.{value_at}
 use Rattle.resolvo_store.specs.Changes.{same_requirement, with_candidates}

@@ -58,12 +58,6 @@ module _ (xs ys : List ℕ) (bx : AreBytes xs) (by : AreBytes ys) where
         | inr past ↦ four_same (at + 4) halves.1 k (omega (arith, past)) (omega (arith, high))
       ]
 
-  pub eights_more : (eight : ℕ) → AreSameTo xs ys (eight * 8) → eight_at xs (eight * 8) ≡ eight_at ys (eight * 8) → AreSameTo xs ys ((eight + 1) * 8)
-  eights_more eight before e k less = elim (cases_lt k (eight * 8)) [
-    | inl l ↦ before k l
-    | inr past ↦ eight_same (eight * 8) e k (omega (arith, past)) (omega (arith, less))
-  ]
-
   -- where all are the same up to the last ones, these decide
   same_by : (n : ℕ) → length ys ≡ length xs → AreSameTo xs ys n → ((k : ℕ) → n ≤ k → k < length xs → get_or xs k 0 ≡ get_or ys k 0) → bytes_eq xs ys ≡ true
   same_by n long before last = (bytes_eq-Decides xs ys).1 (same_number_lists xs ys (sym long) (λ k less. elim (cases_lt k n) [ inl l ↦ before k l | inr past ↦ last k (omega (arith, past)) less ]))
@@ -88,6 +82,3 @@ module _ (xs ys : List ℕ) (bx : AreBytes xs) (by : AreBytes ys) where
     | inl y ↦ y.0 ∙ sym (same_by 4 long (λ k less. four_same 0 first k (omega arith) (omega (arith, less))) (λ k low less. four_same last y.1 k (omega (arith, covers, low)) (omega (arith, ends, less))))
     | inr y ↦ y.0 ∙ fours_apart last y.1
   ]
-
-pub lengths_apart : (xs ys : List ℕ) → (length xs ≡ length ys → ⊥) → false ≡ bytes_eq xs ys
-lengths_apart xs ys apart = elim (cases_Bool (bytes_eq xs ys)) [ inl same ↦ absurd (apart (ap (λ (zs : List ℕ). length zs) ((bytes_eq-Decides xs ys).0 same))) | inr other ↦ sym other ]

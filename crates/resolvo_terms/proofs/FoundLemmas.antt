@@ -33,9 +33,6 @@ use Rattle.resolvo_terms.specs.Found.{AreKept, AreKeyed, HasMore, Key, key_eq, l
 
 -- ---- any values
 
-pub extends_own : {V : Type 0} (vs : List V) → Extends vs vs
-extends_own vs k x e = e
-
 pub extends_more : {V : Type 0} (vs : List V) (v : V) → Extends vs (vs ++ v ∷ [])
 extends_more vs v k x e = get_kept vs v x k e
 

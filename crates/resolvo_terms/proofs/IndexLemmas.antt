@@ -333,9 +333,6 @@ text_exact x y e = (bytes_decides x y).0 e
 text_own : (x : List ℕ) → bytes_eq x x ≡ true
 text_own x = (bytes_decides x x).1 refl
 
-pub texts_none : (texts : List (List ℕ)) (slots : List ℕ) → AreTextsFound texts slots [] 0
-texts_none texts slots = index_none bytes_eq text_exact text_own text_hash texts slots (list_number_in []) (λ v. refl)
-
 module _ (texts : List (List ℕ)) (slots : List ℕ) (others : List (Vec ℕ × ℕ)) where
   pub text_if : AreTextsFound texts slots others (length texts) → (text : List ℕ) (r : Option ℕ) → r ≡ number_from bytes_eq texts slots (list_number_in others text) tries (place_from (text_hash text)) text → IfSome r (λ i. slice_get texts i ≡ Some text)
   text_if h text r is = indexed_if bytes_eq text_exact text_own text_hash texts slots (list_number_in others) (length texts) h text r is

@@ -11,7 +11,7 @@ use Rattle.resolvo_terms.specs.declared.set_lists.Part.{Part}
 use Rattle.resolvo_terms.specs.Terms.{AreOnce}
 use Rattle.resolvo_terms.specs.Found.{IsPut, number_from, place_from, tries}
 use Rattle.resolvo_terms.specs.Lists.{AreListsFound, AreParts, list_eq, list_hash, map_number, part_of, set_numbers}
-use Rattle.resolvo_terms.proofs.IndexLemmas.{index_none, index_more, index_push, indexed_if, indexed_once, indexed_absent}
+use Rattle.resolvo_terms.proofs.IndexLemmas.{index_more, index_push, indexed_if, indexed_once, indexed_absent}
 use Rattle.resolvo_terms.proofs.Places.{get_push}
 
 -- ---- one list more in one list
@@ -69,9 +69,6 @@ list_exact x y e = numbers_exact x y ((bytes_decides (set_numbers x) (set_number
 
 list_own : (x : List VersionSetId) → list_eq x x ≡ true
 list_own x = (bytes_decides (set_numbers x) (set_numbers x)).1 refl
-
-pub lists_none : (lists : List (List VersionSetId)) (slots : List ℕ) → AreListsFound lists slots [] 0
-lists_none lists slots = index_none list_eq list_exact list_own list_hash lists slots (map_number []) (λ v. refl)
 
 module _ (lists : List (List VersionSetId)) (slots : List ℕ) (others : List (Vec ℕ × ℕ)) where
   pub list_if : AreListsFound lists slots others (length lists) → (list : List VersionSetId) (r : Option ℕ) → r ≡ number_from list_eq lists slots (map_number others list) tries (place_from (list_hash list)) list → IfSome r (λ i. slice_get lists i ≡ Some list)

@@ -1,29 +1,21 @@
 -- What is read as numbers, SPEC by SPEC, beside what the parser reads.
-use Rattle.std.proofs.Common.{◌≡◌, ◌∙◌, ◌≤◌, ◌<◌, ◌+◌, ◌*◌, ◌∷◌, ◌++◌, [], ℕ, Bool, true, false, List, length, Option, Some, None, refl, sym, ap, subst, arith}
-use Rattle.std.specs.Prelude.{codes, Result, Ok, Err, slice_get}
+use Rattle.std.proofs.Common.{◌≡◌, ◌∙◌, ◌≤◌, ◌+◌, ◌*◌, ◌∷◌, ◌++◌, [], ℕ, Bool, true, false, List, length, Option, Some, None, refl, sym, ap, arith}
+use Rattle.std.specs.Prelude.{codes, Ok}
 use Rattle.std.proofs.lemmas.List.{length_push}
-use Rattle.resolvo_text.specs.Line.{Spec, Cond, Line, Needs}
+use Rattle.resolvo_text.specs.Line.{Spec, Cond, Needs}
 use Rattle.resolvo_text.specs.Spelling.{Words, is_name}
 use Rattle.resolvo_text.specs.declared.spec.Span.TheVariants.{Any}
 use Rattle.resolvo_text.specs.declared.line.LineFault.{LineFault}
 use Rattle.resolvo_text.specs.declared.line.LineFault.TheVariants.{Fault, Memory}
-use Rattle.resolvo_text.specs.Parse.{◌>>=◌, Fails, name_in, span_at, spec_at, skip, with_first, alternatives_at, condition_in, needs_in, words_in}
+use Rattle.resolvo_text.specs.Parse.{Fails, name_in, span_at, spec_at, skip, with_first, alternatives_at, condition_in, needs_in, words_in}
 use Rattle.resolvo_text.proofs.TextLaws.{name_is_one_word}
-use Rattle.resolvo_text.proofs.AlternativeLemmas.{with_prefix, at_start, goes_on, ends}
+use Rattle.resolvo_text.proofs.AlternativeLemmas.{with_prefix, goes_on, ends}
 use Rattle.resolvo_pool_core.specs.declared.id.VersionSetId.{VersionSetId}
-use Rattle.resolvo_pool_core.specs.declared.id.VersionSetUnionId.{VersionSetUnionId}
-use Rattle.resolvo_pool_core.specs.declared.id.ConditionId.{ConditionId}
 use Rattle.resolvo_pool_core.specs.declared.requirement.Requirement as needs
-use Rattle.resolvo_pool_core.specs.declared.requirement.ConditionalRequirement.{ConditionalRequirement}
-use Rattle.resolvo_terms.specs.Terms.{Terms, AreEach, IsSpec, AreAlternatives, IsConditionOf, Grows}
-use Rattle.resolvo_terms.specs.TermCounts.{term_count, ids_for_any_condition}
-use Rattle.resolvo_terms.specs.Reads.{Reads, IsNeedRead}
-use Rattle.resolvo_terms.proofs.GrowLemmas.{each_more, specs_stay, alternatives_stay}
-
--- what the parser reads where numbers were read
-pub read_of : {X Y : Type 0} (R : X → Y → Type 0) (x : X) (o : Option Y) → Reads R (Ok x) o → (y : Y) × (o ≡ Some y) × R x y
-read_of R x (Some y) h = (y, refl, h)
-read_of R x None h = absurd h
+use Rattle.resolvo_terms.specs.Terms.{Terms, AreEach, IsSpec, AreAlternatives, Grows}
+use Rattle.resolvo_terms.specs.TermCounts.{term_count}
+use Rattle.resolvo_terms.specs.Reads.{Reads}
+use Rattle.resolvo_terms.proofs.GrowLemmas.{each_more, specs_stay}
 
 -- the members so far are those of the SPECs so far, and each SPEC but the first took two numbers at most
 pub record HasRead (t : Terms) (start : ℕ) (members : List VersionSetId) (rest : Words) (total : Option (List Spec × Words)) : Type 0 where

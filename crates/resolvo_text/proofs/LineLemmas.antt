@@ -6,7 +6,7 @@ use Rattle.std.specs.Option.{option_to_list}
 use Rattle.std.specs.Io.KnownBytes.{Consumes, IsAtEnd, prepend_known}
 use Rattle.std.proofs.lemmas.Bool.{ltb-true, ltb-false}
 use Rattle.std.proofs.lemmas.List.{append-nil, length-append}
-use Rattle.std.proofs.lemmas.List.Sums.{sum_by-cons, sum_by-append, sum_by_push, prefix_len-le-length}
+use Rattle.std.proofs.lemmas.List.Sums.{sum_by-cons, sum_by-append, prefix_len-le-length}
 use Rattle.std.proofs.Math.Seq.{take-append-add}
 use Rattle.resolvo_text.specs.Lines.{lines_of, newlines, is_newline}
 use Rattle.resolvo_text.specs.Device.{DeviceFailed, one_more, last}
@@ -27,11 +27,6 @@ none_first false n e = (refl, omega arith)
 
 pub no_newline : (b : ℕ) (bs : List ℕ) → newlines (b ∷ bs) ≡ 0 → (eqb b 10 ≡ false) × (newlines bs ≡ 0)
 no_newline b bs e = none_first (eqb b 10) (newlines bs) (sym (sum_by-cons (λ x. cond (is_newline x) 1 0) b bs) ∙ e)
-
-pub no_newline_more : (line : List ℕ) (b : ℕ) → newlines line ≡ 0 → eqb b 10 ≡ false → newlines (line ++ b ∷ []) ≡ 0
-no_newline_more line b none other =
-    let one : newlines (line ++ b ∷ []) ≡ newlines line + cond (eqb b 10) 1 0 = sum_by_push (λ x. cond (is_newline x) 1 0) line b in
-    one ∙ ap (λ (t : Bool). newlines line + cond t 1 0) other ∙ omega arith
 
 -- no newline is above the first one
 none_above : (xs : List ℕ) → newlines (take (position_or_len is_newline xs) xs) ≡ 0

@@ -11,7 +11,7 @@ use Rattle.std.specs.Str.Parse.{digits_value, AllDigits}
 use Rattle.std.proofs.lemmas.Bool.{and_parts, lt-ltb, ltb-true}
 use Rattle.std.proofs.lemmas.Slice.Eq.{bytes_eq-Decides}
 use Rattle.std.proofs.lemmas.Fmt.{digits_value-decimal, decimal-digits_value, decimal_nonempty, first_decimal, decimal_digit, digits_decimal}
-use Rattle.std.proofs.lemmas.Str.Parse.{digits_value-take-le, IsNumeralModel, numerals_by_value, tells_digits, digit_at}
+use Rattle.std.proofs.lemmas.Str.Parse.{digits_value-take-le, IsNumeralModel, numerals_by_value, tells_digits}
 use Rattle.std.proofs.lemmas.Option.{slice_get_within, cond_some, same_Some, get_or_from_slice_get}
 use Rattle.resolvo_text.specs.Parse.{number_in}
 
@@ -81,10 +81,6 @@ pub no_number_empty : (word : List ℕ) → slice_get word 0 ≡ None → number
 no_number_empty [] h = number_in_none [] (λ n lt e. absurd (omega (arith, decimal_nonempty n (omega arith), ap (λ (xs : List ℕ). length xs) e)))
 no_number_empty (b ∷ bs) h = absurd cc
 
-pub no_number_plus : (word : List ℕ) → slice_get word 0 ≡ Some 43 → number_in word ≡ None
-no_number_plus [] h = absurd cc
-no_number_plus (b ∷ bs) h = number_in_none (b ∷ bs) (λ n lt e. let r = digit_at (decimal n) 0 (digits n lt) (decimal_nonempty n (omega arith)) in omega (arith, r, ap (λ (xs : List ℕ). get_or xs 0 0) e, same_Some b 43 h))
-
 not_after_zero : (b : ℕ) (bs : List ℕ) (n : ℕ) → b ≡ 48 → 1 < length (b ∷ bs) → n < 2 ^ 32 → ◌≡◌ {A = List ℕ} (b ∷ bs) (decimal n) → ⊥
 not_after_zero b bs zero is long lt e = absurd (omega (arith, long, ap (λ (xs : List ℕ). length xs) (e ∙ decimal_digit 0 (omega arith))))
 not_after_zero b bs (suc n) is long lt e = absurd (omega (arith, is, first_decimal (suc n) (omega arith) (omega arith), ap (λ (xs : List ℕ). get_or xs 0 0) e))
@@ -114,11 +110,6 @@ pub text_is : {E : Type 0} (U : Type 0) (Q : E → Type 0) (word : List ℕ) (r 
     → MatchResult r (λ t. (t.now ≡ word) × U) Q → Some s ≡ result_ok r → s.now ≡ word
 text_is U Q word (Ok t) s h e = ap (λ (o : Option (Bor (List ℕ))). option_map_or (λ x. x.now) o word) e ∙ h.0
 text_is U Q word (Err d) s h e = absurd cc
-
-pub not_text : {E : Type 0} (P : Bor (List ℕ) → Type 0) (U : Type 0) (Q : E → Type 0) (r : Result (Bor (List ℕ)) E)
-    → MatchResult r P (λ e. (U → ⊥) × Q e) → None ≡ result_ok r → U → ⊥
-not_text P U Q (Ok t) h e = absurd cc
-not_text P U Q (Err d) h e = h.0
 
 pub text_given : {E : Type 0} (U : Type 0) (Q : E → Type 0) (word : List ℕ) (r : Result (Bor (List ℕ)) E)
     → MatchResult r (λ t. (t.now ≡ word) × U) (λ e. (U → ⊥) × Q e) → U → option_map (λ s. s.now) (result_ok r) ≡ Some word

@@ -1,6 +1,6 @@
 -- Reading a text line by line, in any grammar: the invariant of a loop over `next_line`.
 use Rattle.std.proofs.Common.{◌≡◌, ℕ, zero, suc, ◌+◌, ◌≤◌, List, [], ◌∷◌, ◌++◌, length, take, Option, Some, refl, sym, ap, subst, ◌∙◌, append_assoc, arith}
-use Rattle.std.specs.Io.KnownBytes.{IsAtEnd, prepend_known}
+use Rattle.std.specs.Io.KnownBytes.{prepend_known}
 use Rattle.std.proofs.lemmas.List.{append-nil, length-append, take-append-le}
 use Rattle.std.proofs.Math.Seq.{take-append-add}
 use Rattle.resolvo_text.specs.Device.{IfKnown, DeviceFailed}
@@ -92,22 +92,6 @@ module _ {L : Type 0} (Parses : Grammar L) where
           used = omega (arith, r.used, t.4, length-append r.prefix t.0);
         },
       )
-
-  pub is_faulty : (known left after : Option (List ℕ)) (lines : List L) (text : List ℕ) (number limit room room_after : ℕ)
-      → ReadTo Parses known left lines number limit room → TakesLine left room text after room_after → ((line : L) → Parses lines text line → ⊥) → IfKnown known (λ all. IsFaultyAt Parses all (number + 1))
-  is_faulty known left after lines text number limit room room_after so_far taken none = λ all e.
-      let h = so_far all e in
-      let r = h.2 in
-      let t = taken h.0 h.1 in
-      record { above = r.texts; faulty = text; below = lines_of t.1; lines = r.split ∙ ap (λ (ls : List (List ℕ)). r.texts ++ ls) t.3.lines; place = omega (arith, r.count); before = lines; read = r.read; none = none }
-
-  pub is_grammatical : (known left : Option (List ℕ)) (lines : List L) (number limit room : ℕ) → ReadTo Parses known left lines number limit room → IsAtEnd left → IfKnown known (λ all. IsGrammatical Parses all lines)
-  is_grammatical known left lines number limit room so_far end = λ all e.
-      let h = so_far all e in
-      let r = h.2 in
-      let over : h.0 ≡ [] = subst IsAtEnd h.1 end in
-      let whole : lines_of all ≡ r.texts = r.split ∙ ap (λ (bs : List ℕ). r.texts ++ lines_of bs) over ∙ append-nil r.texts in
-      subst (λ (ts : List (List ℕ)). Reads Parses [] ts lines) (sym whole) r.read
 
   -- the lines that end among the bytes read are among the lines read
   good_so_far : (text rest received : List ℕ) (lines : List L) (number limit room : ℕ) → IsReadTo Parses text rest lines number limit room → newlines received ≤ number → IsGoodSoFar Parses text received

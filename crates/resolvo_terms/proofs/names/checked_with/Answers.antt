@@ -1,4 +1,4 @@
-use Rattle.std.proofs.Common.{◌≡◌, ◌∙◌, ℕ, List, sym, ap}
+use Rattle.std.proofs.Common.{◌∙◌, sym, ap}
 use Rattle.resolvo_text.specs.Spelling.{is_name}
 use Rattle.resolvo_terms.proofs.NameLemmas.{checked_more}
 use Rattle.resolvo_terms.proofs.names.checked_with.Goals as goal

@@ -1,8 +1,7 @@
-use Rattle.std.proofs.Common.{◌≡◌, ℕ, ◌⊎◌, inl, inr, Some, None, length, length-set, refl, sym, ◌∙◌, ap, subst}
+use Rattle.std.proofs.Common.{◌≡◌, inl, inr, Some, None, length, length-set, sym, ◌∙◌, ap}
 use Rattle.resolvo_decide.specs.declared.clause_states.ClauseState.TheVariants.{Open}
 use Rattle.resolvo_decide.specs.declared.undecided_clauses.UndecidedClauses.{UndecidedClauses}
-use Rattle.resolvo_decide.specs.Links.{link_at, IsLinked}
-use Rattle.resolvo_decide.specs.States.{state_at}
+use Rattle.resolvo_decide.specs.Links.{link_at}
 use Rattle.resolvo_decide.proofs.LinkLemmas.{linked_none, linked_step}
 use Rattle.resolvo_decide.proofs.Positions.{opened_put, others_more}
 use Rattle.resolvo_decide.proofs.undecided_clauses.UndecidedClauses.open_clauses_of.Goals as goal

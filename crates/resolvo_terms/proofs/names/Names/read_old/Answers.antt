@@ -1,7 +1,5 @@
-use Rattle.std.proofs.Common.{◌≡◌, ◌∙◌, ℕ, List, Some, Ok, sym, subst}
+use Rattle.std.proofs.Common.{◌≡◌, ◌∙◌, ℕ, List, Some, sym, subst}
 use Rattle.std.specs.Prelude.{slice_get}
-use Rattle.resolvo_text.specs.Parse.{name_in}
-use Rattle.resolvo_terms.specs.Reads.{Reads}
 use Rattle.resolvo_terms.proofs.NameLemmas.{known_read, no_name}
 use Rattle.resolvo_terms.proofs.names.Names.read_old.Goals as goal
 

@@ -1,4 +1,4 @@
-use Rattle.std.proofs.Common.{ℕ, ◌+◌, ◌*◌, ◌≤◌}
+use Rattle.std.proofs.Common.{◌+◌, ◌*◌, ◌≤◌}
 use Rattle.resolvo_text.specs.Parse.{words_in, part_at, joined_at}
 use Rattle.resolvo_text.proofs.ConditionLemmas.{rank}
 use Rattle.resolvo_terms.specs.Terms.{Grows}

@@ -1,4 +1,4 @@
-use Rattle.std.proofs.Common.{◌≡◌, ◌∷◌, [], List, subst}
+use Rattle.std.proofs.Common.{List, subst}
 use Rattle.resolvo_pool_core.specs.declared.id.VersionSetId.{VersionSetId}
 use Rattle.resolvo_terms.specs.Found.{HasMore}
 use Rattle.resolvo_terms.proofs.FoundLemmas.{unions_more}
