@@ -15,7 +15,7 @@ use std::alloc::Global;
 /// The most bytes of standard input.
 pub const INPUT_LIMIT: usize = 33_554_432;
 
-// This number, `PIECE` and `newline_in` are in `resolvo_text` too, which doesn't export them.
+// This number is in `resolvo_text` too, which doesn't export it.
 /// The most interruptions in a row; the next one is a failure.
 const MOST_INTERRUPTIONS: u32 = 1000;
 

@@ -97,6 +97,7 @@ fn favoured_by(alloc: Global, catalogue: &Catalogue) -> Result<BTreeMap<u32, Ver
     Ok(map)
 }
 
+/// The chosen versions, and which of them are entries.
 #[derive(Drop)]
 pub struct Chosen {
     /// The chosen versions that are no entries.
@@ -218,7 +219,7 @@ impl Chosen {
         self.favoured.get(&package).copied()
     }
 
-    /// The same, if it is a chosen one in the span and no entry.
+    /// The favoured version of the package, if it is chosen, in the span and no entry.
     fn favoured_match(&self, catalogue: &Catalogue, package: u32, span: Span) -> Option<VersionNo>
         ensures { (chosen entries : Set) (s : content.Spec)
             → first_of (listed catalogue.now) s.name ≡ Some «package»
@@ -253,7 +254,7 @@ impl Chosen {
         }
     }
 
-    /// The same, by its flag no entry.
+    /// The first chosen match of the SPEC, if by its flag it is no entry.
     fn unlisted_match(&self, catalogue: &Catalogue, spec: PackageSpan) -> Option<VersionNo>
         ensures unlisted { IfSome result (λ n. is_unlisted self.now.listed.items n.0 ≡ true) }
         ensures matched { (chosen entries : Set) (s : content.Spec)
@@ -273,7 +274,7 @@ impl Chosen {
         }
     }
 
-    /// Such a version of the alternative at a place.
+    /// The first such match of the alternative at a place.
     fn match_at(&self, catalogue: &Catalogue, need: &Need<'_>, place: usize) -> Option<VersionNo>
         requires { IsOf catalogue.now need.now }
         ensures unlisted { IfSome result (λ n. is_unlisted self.now.listed.items n.0 ≡ true) }
@@ -288,7 +289,7 @@ impl Chosen {
         }
     }
 
-    /// Such a version of the first alternative that has one.
+    /// The first such match of the first alternative that has one.
     fn first_match(&self, catalogue: &Catalogue, need: &Need<'_>) -> Option<VersionNo>
         requires { IsOf catalogue.now need.now }
         ensures unlisted { IfSome result (λ n. is_unlisted self.now.listed.items n.0 ≡ true) }
@@ -318,7 +319,7 @@ impl Chosen {
     }
 
     /// Whether the condition holds among the entries.
-    // one of four such bodies, each over its own form of a set (docs/DECISIONS.md)
+    // one of several such bodies, each over its own form of a set (docs/DECISIONS.md)
     fn holds(&self, catalogue: &Catalogue, condition: &Cond) -> bool
         ensures { (chosen entries : Set)
             → Holds catalogue.now self.now chosen entries

@@ -7,6 +7,7 @@ ghost use Rattle.resolve_order.specs.Keys.{before, number_of, places_of, AreKeys
 use crate::key_places::KeyPlaces;
 use std::alloc::{AllocError, Global};
 
+/// The numbers of the keys that have one.
 #[derive(Drop)]
 pub struct KeyNumbers {
     alloc: Global,

@@ -41,7 +41,7 @@ pub enum Need<'a> {
     },
 }
 
-/// That of a SPEC of a text.
+/// The package and the span of a SPEC of a text.
 pub fn span_of(catalogue: &Catalogue, spec: &Spec) -> PackageSpan
     ensures { IsSpanOf (listed catalogue.now) (spec_of spec.now) result }
 {
@@ -66,7 +66,7 @@ pub fn kept_package(catalogue: &Catalogue, kept: &KeptLines<'_>, name: NameId) -
     }
 }
 
-/// That of a SPEC of a number.
+/// The package and the span of a SPEC of a number.
 pub fn kept_span(catalogue: &Catalogue, kept: &KeptLines<'_>, spec: VersionSetId) -> PackageSpan
     requires { kept.now.lines ≡ catalogue.now }
     ensures { IsSpanOf (listed catalogue.now) (spec_at kept.now.terms spec) result }

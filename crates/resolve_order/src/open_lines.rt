@@ -3,8 +3,8 @@
 //! for its condition. Used by `install_order`.
 //!
 //! So a line is looked at once, again after each version that it gives, and again for each such
-//! version. That is many times where many versions of a package that is marked `many` come one
-//! after the other, and a range of many lines names it, or where a line has many alternatives.
+//! version. That is many times where a range of many lines names a package that is marked `many`, and
+//! its versions come one after the other. So it is where a line has many alternatives.
 
 ghost use Rattle.std.specs.Prelude.{◌≡◌, ℕ, ◌<◌, ◌^◌, ◌++◌, [], length, Contains, true, None, Some, List, Option, slice_get, IfOk, IfSome, OnOk};
 ghost use Rattle.std.specs.BTreeSet.{contains};
@@ -25,6 +25,7 @@ use resolvo_catalogue_core::{Catalogue, Request, VersionNo};
 use std::alloc::{AllocError, Global};
 use std::collections::BTreeSet;
 
+/// The lines that may give a version, and those that are closed.
 #[derive(Drop)]
 pub struct OpenLines {
     /// The lines before `below` to look at again.

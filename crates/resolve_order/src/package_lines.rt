@@ -20,6 +20,7 @@ use resolvo_pool_core::id::ConditionId;
 use std::alloc::{AllocError, Global};
 use std::mem;
 
+/// The lines of each key.
 #[derive(Drop)]
 pub struct PackageLines {
     alloc: Global,

@@ -164,7 +164,7 @@ fn newest_beside(packages: &BTreeMap<u32, Numbers>, package: u32, span: Span) ->
     }
 }
 
-/// That of the higher number, or the one that there is.
+/// The version of the higher number, or the one that there is.
 fn newer(one: Option<Numbered>, other: Option<Numbered>) -> Option<Numbered>
     ensures { result ≡ newer one other }
 {

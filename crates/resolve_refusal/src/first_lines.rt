@@ -249,8 +249,8 @@ impl Texts<'_> {
         }
     }
 
-    /// The first line of a place that needs these alternatives in this case, and the first such
-    /// case of it, by its key where the first lines are kept.
+    /// The first line of a place that needs these alternatives in this case, and the first such case
+    /// of it. By its key, where the first lines are kept.
     pub fn first_need(
         self,
         alloc: Global,

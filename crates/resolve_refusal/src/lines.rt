@@ -58,6 +58,7 @@ pub(crate) enum PlaceLines<'a> {
 }
 
 impl PlaceLines<'_> {
+    /// How many lines these are.
     pub fn count(self) -> usize
         ensures { result ≡ count_of self.entry }
     {

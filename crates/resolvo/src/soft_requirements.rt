@@ -283,7 +283,7 @@ pub fn run_soft_requirement<A: PackageSource, C: ScoreMap<A::NameId>>(
     if let Some(settled) = settle(alloc, encoding, soft)? {
         return Ok(settled);
     }
-    // split for the prover: settled and undecided
+    // split for the prover: error and answer
     let outcome = run_undecided(alloc, answers, encoding, state, input, soft)?;
     Ok(outcome)
 }

@@ -28,7 +28,7 @@ impl VersionDependencies {
     ghost use Rattle.resolvo_catalogue.specs.Dependencies.{AreDependenciesOf, deps_of, no_lines};
     ghost use Rattle.resolvo_catalogue.specs.Tabled.{deps_by, with_rule};
 
-    /// Those of no lines, with room for so many requirements.
+    /// No requirement and no constraint, with room for so many requirements.
     pub fn with_room(alloc: Global, count: usize) -> Result<VersionDependencies, AllocError>
         ensures { IfOk result (λ deps. deps_of deps ≡ no_lines) }
     {

@@ -17,6 +17,7 @@ use resolvo_terms::Terms;
 use std::alloc::Global;
 use std::marker::Model;
 
+/// The terms of a catalogue, and those of a request.
 pub struct RequestTerms<'a> {
     lent: &'a Terms,
     /// The same terms with those of the request, once one was added.

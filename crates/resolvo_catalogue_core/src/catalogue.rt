@@ -168,6 +168,7 @@ impl Catalogue {
         self.table.barred(version)
     }
 
+    /// How many lines the text has.
     pub fn line_count(&self) -> u32
         ensures { result ≡ length self.now }
     {

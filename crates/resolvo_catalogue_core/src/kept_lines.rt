@@ -19,6 +19,7 @@ use resolvo_pool_core::id::NameId;
 use resolvo_terms::Terms;
 use std::marker::Model;
 
+/// The lines of a catalogue with the numbers by which they are kept.
 #[derive(Drop)]
 pub struct KeptLines<'a> {
     pub(crate) table: &'a Table,
@@ -70,6 +71,7 @@ impl<'a> KeptLines<'a> {
         &self.table.versions
     }
 
+    /// How many lines the text has.
     pub fn line_count(&self) -> u32
         ensures { result ≡ length self.now.lines }
     {

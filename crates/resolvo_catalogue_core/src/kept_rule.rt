@@ -85,6 +85,7 @@ impl KeptRule {
         }
     }
 
+    /// Whether the rule locks another version.
     pub(crate) fn is_lock_of_another(self, version: VersionNo) -> bool
         ensures { result ≡ is_lock_of_another self version.0 }
     {

@@ -26,6 +26,7 @@ fn plain(owner: VersionNo, requirement: Requirement) -> KeptRule
     }
 }
 
+/// The lines of a catalogue, and the longer rules that they name.
 #[derive(Drop)]
 pub struct LineTable {
     held: StoredLines,

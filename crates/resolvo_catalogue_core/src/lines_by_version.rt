@@ -11,6 +11,7 @@ use resolvo_terms::place_of;
 use std::alloc::{AllocError, Global};
 use std::marker::Model;
 
+/// The lines of each version.
 #[derive(Drop)]
 pub struct LinesByVersion {
     lines: Vec<u32>,

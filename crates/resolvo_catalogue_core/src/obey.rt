@@ -1,6 +1,6 @@
 //! Whether a set of versions, given by their numbers, obeys a rule.
 //! The model of the set is its members among the listed versions. Used by `keeps` of catalogue and
-//! request.
+//! request, which are for users: the judge has a test of its own over its entries.
 
 ghost use Rattle.std.specs.Prelude.{◌≡◌, ◌==◌, ◌||◌, ◌<◌, not, slice_get, Some, None, Option, List, true, false};
 ghost use Rattle.std.specs.List.{list_any, list_all};

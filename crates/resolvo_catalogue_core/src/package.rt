@@ -20,6 +20,7 @@ use std::array;
 use std::collections::BTreeSet;
 use std::ops::Bound;
 
+/// The versions of a package: none, one or several.
 #[derive(Drop)]
 pub enum Package {
     Absent,

@@ -12,6 +12,7 @@ use crate::rule::VersionNo;
 use resolvo_pool_core::id::{DenseIndex, NameId};
 use std::alloc::{AllocError, Global};
 
+/// The package of each name.
 #[derive(Drop)]
 pub struct PackageTable {
     /// The package of each name, by the number of the name. It is absent before a version of it is

@@ -55,6 +55,7 @@ impl Request {
     ghost use Rattle.resolvo_catalogue_core.specs.Listed.{listed, members};
     ghost use Rattle.resolvo_catalogue_core.specs.Questions.{AreAll, LineIs, IsWish, WishesAt, IsRuleLine, is_rule, wished_in, cases_of_line};
 
+    /// How many lines the text has.
     pub fn line_count(&self) -> u32
         ensures { result ≡ length self.now.lines }
     {

@@ -25,6 +25,7 @@ pub enum RequestLine {
     Rule(Rule),
 }
 
+/// The lines of a request, and its wishes with their lines.
 pub struct RequestLines {
     pub asks: Vec<RequestLine>,
     pub wishes: Vec<(u32, VersionNo)>,
@@ -66,6 +67,7 @@ impl RequestLines {
         self.asks.get((line - 1) as usize)
     }
 
+    /// The rule of the line, if it has one.
     pub fn rule(&self, line: u32) -> Option<&Rule>
         ensures { option_copied result ≡ option_and_then rule_asked (ask_at self.now.asks.items line) }
     {

@@ -42,7 +42,8 @@ pub struct PackedLine {
     number: u32,
 }
 
-/// The stored line of a kind.
+/// The stored line of a kind: 0 is nothing, 1 a version, 2 a favour, 3 a mark, 4 a need of one SPEC, 5
+/// one of several, 6 a limit, 7 another rule.
 #[inline(always)]
 fn line_by(kind: u32, owner: VersionNo, number: u32) -> StoredLine
     ensures { result ≡ line_by kind owner number }

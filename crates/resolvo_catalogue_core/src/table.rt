@@ -37,6 +37,7 @@ use resolvo_text::{
 use std::alloc::{AllocError, Global};
 use std::collections::{BTreeMap, BTreeSet};
 
+/// The lines of a catalogue, and the maps by which they are found.
 pub struct Table {
     /// What the rules speak of, by numbers.
     pub terms: Terms,
@@ -126,6 +127,7 @@ impl Table {
         }
     }
 
+    /// The version of a package by its number, if it is listed.
     pub fn find(&self, name: &str, number: u32) -> Option<VersionNo>
         requires { IsTable self.now }
         ensures { option_map number_of result ≡ number_in (package_named self.now name.now) number }
@@ -152,6 +154,7 @@ impl Table {
         package.find(number)
     }
 
+    /// The versions of a package, in line order.
     pub fn versions_of(&self, name: &str) -> &[VersionNo]
         ensures { map number_of result.now ≡ numbers_in (package_named self.now name.now) }
     {
@@ -178,12 +181,14 @@ impl Table {
         }
     }
 
+    /// The lines that belong to a version.
     pub fn lines_of(&self, version: VersionNo) -> &[u32]
         ensures { result.now ≡ kept_of self.now.owned version.0 }
     {
         self.owned.lines_of(version)
     }
 
+    /// The rule of the line, if it has one.
     pub fn rule(&self, line: u32) -> Option<KeptRule>
         ensures { result ≡ option_and_then rule_of (kind_at (kinds_in self.now) line) }
     {
@@ -247,6 +252,7 @@ impl Table {
         }
     }
 
+    /// The line that forbids a version, if one does: its exclusion, or the lock of another one.
     pub fn barred(&self, version: VersionNo) -> Option<u32>
         requires { IsTable self.now }
         ensures { IsOnly result

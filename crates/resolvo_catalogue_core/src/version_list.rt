@@ -18,6 +18,7 @@ use std::alloc::{AllocError, Global};
 use std::collections::{BTreeMap, BTreeSet};
 use std::ops::Bound;
 
+/// The versions of a package that has several.
 #[derive(Drop)]
 pub struct VersionList {
     numbers: Vec<u32>,

@@ -1,5 +1,5 @@
 //! A table of truth values that is never cleared: a value counts in the pass that set it.
-//! Its model is a function from variables to known values. Used by `one_pass`.
+//! Its model is a function from variables to known values. Used by `rup`.
 
 ghost use Rattle.std.specs.Prelude.{◌≡◌, ◌<◌, ◌≤◌, ◌^◌, ◌+◌, ℕ, OnOk, OnErr, vec_len, All};
 ghost use Rattle.std.specs.Bool.{nat_eq};
@@ -42,6 +42,7 @@ impl Assignment {
         self.pass = pass;
     }
 
+    /// The value of a variable in this pass, if it has one.
     pub fn known(&self, variable: usize) -> Option<bool>
         ensures { result ≡ known_in self.now.marks.items self.now.pass variable }
     {
@@ -96,6 +97,7 @@ impl Assignment {
         };
     }
 
+    /// Gives a variable its value in this pass.
     pub fn set(&mut self, variable: usize, value: bool) -> Result<(), AllocError>
         ensures known { OnOk result
             (known_in self.new.marks.items self.new.pass

@@ -64,6 +64,7 @@ pub fn push_name(key: &mut Vec<usize>, name: &str) -> Result<(), AllocError>
     Ok(())
 }
 
+/// Adds the literal that some version of a package is a member.
 pub fn push_any(
     alloc: Global,
     numbers: &mut AtomIds,
@@ -82,6 +83,7 @@ pub fn push_any(
     Ok(())
 }
 
+/// Adds the literal of a bit of a package's place.
 pub fn push_bit(
     alloc: Global,
     numbers: &mut AtomIds,
@@ -122,6 +124,7 @@ fn push_spec(key: &mut Vec<usize>, spec: &Spec) -> Result<(), AllocError>
     Ok(())
 }
 
+/// Adds the literal that a member of the package doesn't match the SPEC.
 pub fn push_outside(
     alloc: Global,
     numbers: &mut AtomIds,
@@ -140,6 +143,7 @@ pub fn push_outside(
     Ok(())
 }
 
+/// Adds the literal that some member matches the SPEC.
 pub fn push_match(
     alloc: Global,
     numbers: &mut AtomIds,
@@ -169,6 +173,7 @@ pub fn shared_key(alloc: Global, alternatives: &[Spec]) -> Result<Vec<usize>, Al
     Ok(key)
 }
 
+/// Adds the literal that some member matches one of these alternatives.
 pub fn push_shared(
     alloc: Global,
     numbers: &mut AtomIds,

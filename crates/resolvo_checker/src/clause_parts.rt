@@ -13,8 +13,10 @@ use resolvo_catalogue_core::{Catalogue, Spec, VersionNo};
 use std::alloc::{AllocError, Global};
 use std::collections::BTreeSet;
 
+/// A clause, by its literals.
 pub type Clause = Vec<Built>;
 
+/// Adds the literal of a version.
 pub fn push_version(out: &mut Clause, version: VersionNo, positive: bool) -> Result<(), AllocError>
     ensures { OnOk result
         ((vs : List spelled.Version)
@@ -29,6 +31,7 @@ pub fn push_version(out: &mut Clause, version: VersionNo, positive: bool) -> Res
     Ok(())
 }
 
+/// Adds the literal that some version of a package is a member.
 pub fn push_any(
     alloc: Global,
     out: &mut Clause,
@@ -49,6 +52,7 @@ pub fn push_any(
     Ok(())
 }
 
+/// Adds the literal of a bit of a package's place.
 pub fn push_bit(
     alloc: Global,
     out: &mut Clause,
@@ -70,6 +74,7 @@ pub fn push_bit(
     Ok(())
 }
 
+/// Copies of SPECs.
 pub fn copies_of(alloc: Global, specs: &[Spec]) -> Result<Vec<Spec>, AllocError>
     ensures { IfOk result (λ v. specs_of v.items ≡ specs_of specs.now) }
 {
@@ -80,6 +85,7 @@ pub fn copies_of(alloc: Global, specs: &[Spec]) -> Result<Vec<Spec>, AllocError>
     Ok(copies)
 }
 
+/// Adds the literal that some member matches one of these alternatives.
 pub fn push_shared(
     alloc: Global,
     out: &mut Clause,
@@ -101,6 +107,7 @@ pub fn push_shared(
     Ok(())
 }
 
+/// Adds the literal that a member of the package doesn't match the SPEC.
 pub fn push_outside(out: &mut Clause, spec: &Spec, positive: bool) -> Result<(), AllocError>
     ensures { OnOk result
         ((vs : List spelled.Version)
@@ -117,6 +124,7 @@ pub fn push_outside(out: &mut Clause, spec: &Spec, positive: bool) -> Result<(),
     Ok(())
 }
 
+/// Adds the literal that some member matches the SPEC.
 pub fn push_match(out: &mut Clause, spec: &Spec, positive: bool) -> Result<(), AllocError>
     ensures { OnOk result
         ((vs : List spelled.Version)

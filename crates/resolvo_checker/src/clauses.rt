@@ -289,6 +289,7 @@ impl Clauses {
         }
     }
 
+    /// How many clauses there are.
     pub fn len(&self) -> usize
         ensures { result ≡ length self.now.kept }
     {
@@ -382,12 +383,14 @@ impl Clauses {
 }
 
 impl Readings {
+    /// How many clauses were named.
     pub fn named(&self) -> u64
         ensures { result ≡ self.now.named }
     {
         self.named
     }
 
+    /// How many clauses were read.
     pub fn read(&self) -> u64
         ensures { result ≡ self.now.read }
     {

@@ -148,7 +148,7 @@ impl<N: Copy + Exact + Hash + Debug + Drop, S: Copy + Exact + Hash + Debug> Enco
         ensures ids { IsErrOf result Ids → LacksNumber self.new.coding }
     {
         if set.many {
-            // split for the prover: the call's error and its answer are goals of their own
+            // split for the prover: error and answer
             let literals = self.matches_literals(alloc, set)?;
             return Ok(literals);
         }

@@ -34,7 +34,7 @@ pub enum Step {
     Chosen,
     /// A clause was falsified, and this one was learnt from it.
     Learnt(ClauseId),
-    /// A clause was falsified by decisions below the turn's base level.
+    /// A clause was falsified by decisions that the turn doesn't undo.
     Refused(FinalConflict),
 }
 

@@ -178,6 +178,7 @@ impl Chosen {
         }
     }
 
+    /// Whether a version is chosen.
     pub fn has(&self, version: &Version) -> bool
         ensures { (set : Set) → Holds self.now set → result ≡ is_member (version_of version.now) set }
     {
@@ -249,7 +250,7 @@ impl Chosen {
     }
 
     /// Whether the condition holds.
-    // one of four such bodies, each over its own form of a set (docs/DECISIONS.md)
+    // one of several such bodies, each over its own form of a set (docs/DECISIONS.md)
     fn holds(&self, condition: &Cond) -> bool
         ensures { (set : Set) → Holds self.now set → result ≡ holds (cond_of condition.now) set }
     {
@@ -260,6 +261,7 @@ impl Chosen {
         }
     }
 
+    /// Whether the condition holds, if there is one.
     pub fn condition_holds(&self, condition: &Option<Box<Cond>>) -> bool
         ensures { (set : Set)
             → Holds self.now set

@@ -37,7 +37,7 @@ pub struct JudgeState {
     pub forbidden: bool,
 }
 
-// Split for the prover: an owner calls this drop, and doesn't drop each field at each exit.
+// split for the prover: one drop
 impl Drop for JudgeState {
     fn drop(self) {
         let JudgeState {

@@ -51,7 +51,7 @@ fn matches_at(
     }
 }
 
-// split for the prover: list and place
+// split for the prover: list and set
 fn any_matches(terms: &Terms, specs: &[VersionSetId], version: &Version) -> bool
     ensures { result
         ≡ list_any (λ s. matches_lem (spec_at terms.now s) (version_of version.now)) specs.now }

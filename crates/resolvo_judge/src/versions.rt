@@ -47,6 +47,7 @@ impl Versions {
         }
     }
 
+    /// Adds a version.
     pub fn add(&mut self, alloc: Global, version: &Version) -> Result<(), AllocError>
         ensures { OnOk result
             ((set : Set)
@@ -66,6 +67,7 @@ impl Versions {
         }
     }
 
+    /// Whether a version was added.
     pub fn has(&self, version: &Version) -> bool
         ensures { (set : Set) → HoldsAll self.now set → result ≡ is_member (version_of version.now) set }
     {

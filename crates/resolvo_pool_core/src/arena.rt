@@ -1,6 +1,6 @@
 //! Values, each under a new id; no value is ever removed alone.
-//! Its model is the list of values, in which a value's position is the index of its id. The solver
-//! keeps its clauses and learnt lists in arenas.
+//! Its model is the list of values, in which a value's position is the index of its id. `Pool` keeps
+//! what it numbers in arenas.
 ghost use Rattle.std.specs.Prelude.{◌≡◌, ◌<◌, ◌≤◌, ◌+◌, ◌++◌, ◌∷◌, [], IfOk, OnOk, OnErr, IsErrOf, IsOkUnless, OnSome, IfSome, length, slice_get, Some};
 ghost use Rattle.std.specs.Borrow.{sem};
 ghost use Rattle.std.specs.Iterator.{YieldsFirstBy, item_count, at_most};

@@ -1,6 +1,5 @@
 //! Ids: dense ones, which are indexes, and sparse ones, which are only names of things.
-//! The model of a dense id is its index; of a sparse id, its raw value. Every map, list and set of
-//! the resolver is keyed by them.
+//! The model of a dense id is its index; of a sparse id, its raw value.
 ghost use Rattle.std.specs.Prelude.{◌≡◌, ◌==◌, ℕ, ◌<◌, ◌≤◌, ◌^◌, ◌↔◌, refl, true, Option, None, Some, IfOk, IsErr, IsOkUnless};
 ghost use Rattle.resolvo_pool_core.specs.declared.want.Want.TheVariants.{Ids};
 ghost use Rattle.std.proofs.Common.{ap, rules, ◌∙◌, sym};

@@ -1,6 +1,6 @@
-//! Ids and the containers that they index, interned names and version sets, and the traits of a
-//! provider. The CDCL solver and its clauses are built on them. In resolvo these are
-//! `src/internal/` and the public `Pool`, `Interner` and `DependencyProvider`.
+//! Ids and the containers that they index, and the traits of a provider with their laws. The CDCL
+//! solver and its clauses are built on them. In resolvo these are `src/internal/`, `Interner` and
+//! `DependencyProvider`.
 #![tactic(auto)]
 
 pub mod arena;

@@ -77,7 +77,7 @@ impl SatState {
     }
 
     /// Whether a clause may watch a literal beside another one. It isn't false, or the other one is
-    /// true, or it became false behind the propagation head.
+    /// true, or the entry that made it false isn't propagated yet.
     fn may_watch(&self, watching: &WatchLists, literal: Literal, other: Literal) -> bool
         requires state { IsState self.now }
         ensures { result ≡ true → MayWatch self.now literal other }
@@ -91,7 +91,8 @@ impl SatState {
         self.is_ahead(watching, literal)
     }
 
-    /// Whether the entry of a literal's variable is behind the propagation head.
+    /// Whether the entry of a literal's variable isn't propagated yet: it is at the propagation head
+    /// or after it.
     fn is_ahead(&self, watching: &WatchLists, literal: Literal) -> bool
         requires state { IsState self.now }
         ensures { result ≡ true → IsAhead self.now literal }

@@ -29,6 +29,7 @@ pub enum VariableKind {
 pub struct SatState {
     pub variables: Vec<VariableKind>,
     pub clauses: ClauseArena,
+    /// The trail. Its own propagation head is that of `ClauseStore`; the search has `qhead`.
     pub tracker: DecisionTracker,
     pub base_level: u32,
     pub qhead: usize,

@@ -281,7 +281,7 @@ fn next_digit<N: Copy + Exact + Hash + Debug, S: Copy + Exact + Hash + Debug>(
     if !tracker.needs_helper(variable) {
         return Ok(None);
     }
-    // A slice has fewer than 2^64 items, so 64 digits distinguish its places.
+    // for the prover: a slice has fewer than 2^64 items, so its digits are few and fit a u32
     let _count = tracker.variables().len();
     let bit = tracker.helpers().len() as u32;
     let digit = coding.variable(ProofAtom::Bit(name, bit))?;

@@ -287,7 +287,8 @@ impl<N: SolverId + Drop> ClauseStore<N> {
         Ok(next)
     }
 
-    /// Sets whether scores are bumped at all. No answer depends on it.
+    /// Sets whether scores are bumped and decay as usual. If not, no pick ends early by their bound. No
+    /// answer depends on it.
     pub fn set_standard_activity_params(&mut self, is_standard: bool)
         ensures { Stays N.Scores.score_of self.old self.new }
     {

@@ -19,6 +19,7 @@ use resolvo_text::{LineFault, is_name};
 use std::alloc::{AllocError, Global};
 use std::marker::Model;
 
+/// The names of packages.
 pub struct Names {
     texts: TextIds,
     /// So many of the first texts are known to spell names.

@@ -16,6 +16,7 @@ pub struct Part {
     end: u32,
 }
 
+/// Lists of version sets.
 pub struct SetLists {
     members: Vec<VersionSetId>,
     parts: Vec<Part>,

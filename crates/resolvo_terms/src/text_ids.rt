@@ -37,6 +37,7 @@ impl Drop for TextIndex {
     }
 }
 
+/// Texts with their numbers.
 pub struct TextIds {
     texts: TextList,
     index: TextIndex,

@@ -16,6 +16,7 @@ pub struct Bounds {
     end: u32,
 }
 
+/// A list of texts.
 pub struct TextList {
     bytes: Vec<u8>,
     bounds: Vec<Bounds>,

@@ -36,6 +36,7 @@ impl Drop for ListIndex {
     }
 }
 
+/// The lists of alternatives of the terms.
 pub struct Unions {
     lists: SetLists,
     index: ListIndex,

@@ -36,7 +36,7 @@ pub enum Line {
 /// Why a line was not parsed: it has a fault, or memory ran out.
 #[derive(Clone, Copy, Debug, PartialEq, Eq, Error)]
 pub enum LineFault {
-    #[error("the line says nothing")]
+    #[error("the line is faulty")]
     Fault,
     #[error("out of memory")]
     Memory,

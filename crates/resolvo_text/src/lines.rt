@@ -30,7 +30,7 @@ pub enum ReadFault {
     TooLong,
     #[error("out of memory")]
     Memory,
-    /// All numbers are used up.
+    /// No reader gives this: one that lacks numbers answers `Memory`.
     #[error("out of numbers")]
     Ids,
 }

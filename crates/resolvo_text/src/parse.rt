@@ -79,6 +79,7 @@ pub fn next_word(rest: &[u8]) -> Option<(&[u8], &[u8])>
     Some(first_word(text))
 }
 
+/// The next word, and what comes behind it; a fault where there is none.
 pub fn word_at(rest: &[u8]) -> Result<(&[u8], &[u8]), LineFault>
     ensures shorter { IfOk result (λ x. length x.1.now < length rest.now) }
     ensures words { Gives (λ x. (x.0.now, words_in x.1.now)) result (word_at (words_in rest.now)) }
@@ -86,6 +87,7 @@ pub fn word_at(rest: &[u8]) -> Result<(&[u8], &[u8]), LineFault>
     next_word(rest).ok_or(LineFault::Fault)
 }
 
+/// The name that a word is; a fault where it is none.
 pub fn name_of(alloc: Global, word: &[u8]) -> Result<String, LineFault>
     ensures { Gives (λ s. string_bytes s) result (name_in word.now) }
 {
@@ -95,6 +97,7 @@ pub fn name_of(alloc: Global, word: &[u8]) -> Result<String, LineFault>
     }
 }
 
+/// The number that a word is; a fault where it is none.
 pub fn number_of(word: &[u8]) -> Result<u32, LineFault>
     ensures { Gives (λ n. n) result (number_in word.now) }
 {
@@ -111,6 +114,7 @@ pub fn last_number(words: &[u8]) -> Result<u32, LineFault>
     }
 }
 
+/// The version that the next two words are, and what comes behind them.
 #[tactic(auto, unfolding(crate::specs::Parse::version_at))]
 pub fn version_at(alloc: Global, words: &[u8]) -> Result<(Version, &[u8]), LineFault>
     ensures { Gives (λ x. (version_of x.0, words_in x.1.now)) result (version_at (words_in words.now)) }
@@ -122,6 +126,7 @@ pub fn version_at(alloc: Global, words: &[u8]) -> Result<(Version, &[u8]), LineF
     Ok((Version { name, number }, words))
 }
 
+/// The reason that the next word is, and what comes behind it.
 #[tactic(auto, unfolding(crate::specs::Parse::reason_at))]
 pub fn reason_at(alloc: Global, words: &[u8]) -> Result<(String, &[u8]), LineFault>
     ensures { Gives (λ x. (string_bytes x.0, words_in x.1.now)) result (reason_at (words_in words.now)) }
@@ -141,6 +146,7 @@ fn begins_without_digit(words: &[u8]) -> bool
     }
 }
 
+/// The span that the next word is, and what comes behind it. Where it is none, any number is in it.
 #[tactic(auto, unfolding(crate::specs::Parse::span_at))]
 pub fn span_at(words: &[u8]) -> (Span, &[u8])
     ensures shorter { length result.1.now ≤ length words.now }
@@ -157,6 +163,7 @@ pub fn span_at(words: &[u8]) -> (Span, &[u8])
     (Span::Any, words)
 }
 
+/// The SPEC that comes next, and what comes behind it.
 #[tactic(auto, unfolding(crate::specs::Parse::spec_at))]
 pub fn spec_at(alloc: Global, words: &[u8]) -> Result<(Spec, &[u8]), LineFault>
     ensures shorter { IfOk result (λ x. length x.1.now < length words.now) }
