@@ -241,7 +241,6 @@ mapped_among ns vs m start end s t ordered finds adds n = (to, from)
 -- ---- tests that are equal
 
 module _ (ns : List ℕ) (vs : List VersionNo) (t : ℕ → Bool) where
-
   pub by_two : (u w : ℕ → Bool) (s middle after : BTreeSet ℕ) → ((k : ℕ) → (u k || w k) ≡ t k) → AddsEach s (IsAmong ns vs u) middle → AddsEach middle (IsAmong ns vs w) after → AddsEach s (IsAmong ns vs t) after
   by_two u w s middle after same first second n = (
     λ h. elim ((second n).0 h) [
