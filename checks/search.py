@@ -7,7 +7,7 @@ Usage: checks/search.py [PAIRS] [--seed N] [--marked] [--program PATH]
 Defaults: 1000 pairs, seed 1, crates/resolve/out/resolve (which `rt run` leaves).
 It counts the pairs whose entries, left-out wishes, named lines, message or steps differ from those of the search by the rules, and
 prints the smallest one. Each byte must be equal, else the status is 1. A tenth of the pairs are of the kind whose packages may be
-marked `many`; with `--marked` all are. With `--kept` it runs the examples of checks/search, which search/README.md describes. With
+marked `many`; with `--marked` all are. With `--kept` it runs the examples that search/README.md describes. With
 `--rows` the plain search answers the rows of the gate, without a program: each as the row expects.
 """
 from __future__ import annotations
@@ -31,6 +31,7 @@ from tools.texts import Catalogue, Install, LeftOut, Refused, Report, Request
 
 HERE = os.path.dirname(os.path.abspath(__file__))
 KEPT = os.path.join(HERE, "search")
+OPTIONS = os.path.join(KEPT, "options")
 Pair = tuple[str, str]
 PARTS = ("verdict", "entries", "left out", "named", "message", "steps")
 
@@ -313,9 +314,22 @@ def faults_of(row: rows.Row, program: str, folder: str) -> list[str]:
     return faults
 
 
+def examples() -> list[rows.Row]:
+    """The kept examples, and the rows of the gate whose answer depends on an option, with that option."""
+    found = rows.read_all(KEPT)
+    with open(OPTIONS, encoding="utf-8") as file:
+        for line in file:
+            if not line.startswith("#"):
+                name, _, option = line.partition(" ")
+                (row,) = rows.read(os.path.join(rows.DATA, f"{name}.row"))
+                row.sections["option"] = option.encode()
+                found.append(row)
+    return found
+
+
 def run_kept(program: str) -> int:
     """Runs the kept examples; the status."""
-    faulty, kept = 0, rows.read_all(KEPT)
+    faulty, kept = 0, examples()
     if not os.path.exists(program):
         print(f"no program is at {program}; only the plain search is run")
     with tempfile.TemporaryDirectory() as folder:
