@@ -18,6 +18,7 @@ from tools.files import Failure
 from tools.index import Limits, Match, Needs, Release, Rule, checked_name, checked_text, files_below, sum_of_files
 from tools.semver import Bad, Requirement, Semver, read_req, read_semver
 from tools.stream import field, json_entries, texts_field
+from tools.words import quoted
 
 CRATE = re.compile(r"[A-Za-z0-9_-]+\Z")
 Where = tuple[str, int]
@@ -92,7 +93,7 @@ def requirement(text: str, where: Where) -> Requirement:
     try:
         return read_req(text)
     except Bad as bad:
-        raise Failure(*where, f"`{text}` {bad}") from None
+        raise Failure(*where, f"{quoted(text)} {bad}") from None
 
 
 def read_features(entry: dict[str, Any], where: Where) -> Features:
@@ -120,7 +121,7 @@ def read_entry(entry: dict[str, Any], where: Where) -> tuple[str, Entry]:
     try:
         version = read_semver(text)
     except Bad as bad:
-        raise Failure(*where, f"`{text}` {bad}") from None
+        raise Failure(*where, f"{quoted(text)} {bad}") from None
     given = [read_dependency(value, where) for value in field(entry, "deps", list, [], where)]
     dependencies = tuple(each for each in given if each is not None)
     features = with_implied(read_features(entry, where), dependencies)
@@ -364,7 +365,7 @@ def read_manifest(path: str) -> tuple[str, Entry]:
             value = tomllib.load(source)
     except OSError as error:
         raise Failure(path, None, f"can't be read: {error.strerror}") from None
-    except (tomllib.TOMLDecodeError, UnicodeDecodeError) as error:
+    except (ValueError, RecursionError) as error:
         raise Failure(path, None, f"isn't TOML: {error}") from None
     package = field(value, "package", dict, ..., where)
     asked = [v.replace("?", "") for values in field(value, "features", dict, {}, where).values() for v in values]
@@ -378,7 +379,7 @@ def read_manifest(path: str) -> tuple[str, Entry]:
     try:
         version = read_semver(text)
     except Bad as bad:
-        raise Failure(path, None, f"`{text}` {bad}") from None
+        raise Failure(path, None, f"{quoted(text)} {bad}") from None
     return name, Entry(where, version, text, dependencies, {}, False, field(package, "links", str, None, where))
 
 

@@ -14,6 +14,7 @@ from tools.files import Failure
 from tools.index import Limits, Match, Needs, Release, Rule, checked_name, checked_text, sum_of_files
 from tools.matchspec import Bad, MatchSpec, read_matchspec, read_version
 from tools.stream import JsonStream, field, texts_field
+from tools.words import quoted
 
 GROUPS = ("packages", "packages.conda")
 Where = tuple[str, int]
@@ -67,7 +68,7 @@ def checked_version(text: str, where: Where) -> None:
     try:
         read_version(text)
     except Bad as bad:
-        raise Failure(*where, f"`{text}` {bad}") from None
+        raise Failure(*where, f"{quoted(text)} {bad}") from None
 
 
 def checked_spec(text: str, where: Where) -> MatchSpec:
@@ -75,7 +76,7 @@ def checked_spec(text: str, where: Where) -> MatchSpec:
     try:
         return read_matchspec(text)
     except Bad as bad:
-        raise Failure(*where, f"`{text}` {bad}") from None
+        raise Failure(*where, f"{quoted(text)} {bad}") from None
 
 
 class RepodataReader:

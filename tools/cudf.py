@@ -18,7 +18,7 @@ from tools.catalogue import MOST_BYTES, Catalogue, CatalogueLine, FavourLine, Li
 from tools.catalogue import SkippedLine, VersionLine, WishLine, catalogue_text, request_text
 from tools.cudf_text import Atom, Atoms, Document, Package, read_document
 from tools.dictionary import Dictionary, RealSpelling, check_word, escape
-from tools.files import Failure, of_file, progress, run_program, shown_path
+from tools.files import Failure, of_file, progress, read_again, run_program, shown_path
 from tools.index import runs
 from tools.message import message_line
 from tools.reports import Install, Refused, Report, read_report
@@ -506,8 +506,5 @@ def convert(path: str, criteria: str, with_source: bool) -> tuple[bytes, bytes]:
 
 
 def sum_of(path: str) -> str:
-    """The sum of a file, which standard input hasn't."""
-    if path == "-":
-        return "-"
-    with open(path, "rb") as source:
-        return f"sha256:{hashlib.file_digest(source, 'sha256').hexdigest()}"
+    """The sum of a file; standard input has none."""
+    return "-" if path == "-" else f"sha256:{hashlib.sha256(read_again(path)).hexdigest()}"

@@ -7,13 +7,12 @@ from __future__ import annotations
 
 import codecs
 import re
-import sys
 from dataclasses import dataclass, field
 from functools import cached_property
 from typing import BinaryIO, Callable, Iterator, NamedTuple, NoReturn, Optional
 
-from tools.files import Failure, shown_path
-from tools.words import Bad, quoted
+from tools.files import Failure, open_bytes, shown_path
+from tools.words import Bad, has_long_number, quoted
 
 PIECE = 2**18
 NAME = r"[A-Za-z0-9+./@()%-]+"
@@ -95,7 +94,7 @@ def read_atom(text: str) -> Atom:
     found = ATOMS.get(text)
     if found is None:
         match = ATOM.match(text)
-        if not match:
+        if not match or has_long_number(text):
             shown = quoted(text.strip(" \t"))
             raise Bad(f"{shown} isn't a package, or a package with a constraint")
         name, sign, number = match.groups()
@@ -141,7 +140,7 @@ def read_formula(text: str) -> Formula:
 def read_number(text: str) -> int:
     """Any whole number."""
     match = NUMBER.match(text)
-    if not match:
+    if not match or has_long_number(text):
         raise Bad(f"{quoted(text)} isn't a whole number")
     return int(match[1] or match[2])
 
@@ -149,7 +148,7 @@ def read_number(text: str) -> int:
 def read_positive(text: str) -> int:
     """A whole number of at least 1, as versions are."""
     match = NUMBER.match(text)
-    if not match or not match[1] or int(match[1]) < 1:
+    if not match or not match[1] or has_long_number(text) or int(match[1]) < 1:
         raise Bad(f"{quoted(text)} isn't a whole number of at least 1")
     return int(match[1])
 
@@ -435,8 +434,7 @@ def read_document(path: str) -> Document:
     """The document of a file; `-` is standard input."""
     reader = DocumentReader(path)
     try:
-        source = sys.stdin.buffer if path == "-" else open(path, "rb")
-        with source:
+        with open_bytes(path) as source:
             for stanza in read_stanzas(read_lines(source, path), path):
                 reader.take(stanza)
     except OSError as error:

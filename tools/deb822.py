@@ -11,7 +11,7 @@ from functools import lru_cache
 from typing import Callable, Iterable, Iterator, NamedTuple, NoReturn, Optional, Union
 
 from tools.files import Failure, shown_path
-from tools.words import Bad, quoted
+from tools.words import MOST_DIGITS, Bad, has_long_number, quoted
 
 FIELD = re.compile(r"[!-9;-~]+\Z")
 NAME = re.compile(r"[A-Za-z0-9][A-Za-z0-9+.-]*\Z")
@@ -53,8 +53,8 @@ def part_key(text: str) -> Key:
 def version_key(text: str) -> Key:
     """A key that sorts as `dpkg --compare-versions` does; raises Bad."""
     match = (WITH_EPOCH if ":" in text else WITHOUT_EPOCH).match(text)
-    if not match:
-        raise Bad(f"{quoted(text)} isn't a version")
+    if not match or has_long_number(text):
+        raise Bad(f"{quoted(text)} isn't a version" + (f": a number has more than {MOST_DIGITS} digits" if match else ""))
     epoch, upstream, revision = match.groups() if ":" in text else ("0", *match.groups())
     if upstream.startswith("-") or upstream.endswith("-"):
         raise Bad(f"{quoted(text)} isn't a version: a part of it is empty")

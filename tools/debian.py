@@ -111,6 +111,8 @@ class Universe:
         if name is None:
             record.fail("the stanza has no Package")
         if architecture not in self.architectures:
+            if name.endswith(b"\r"):
+                record.fail("a carriage return; lines end with a newline alone")
             if architecture is None:
                 record.fail(f"the stanza of {name.decode('utf-8', 'replace')} has no Architecture")
             return

@@ -1,22 +1,25 @@
 """Files in and out, errors that name them, progress, and the program `resolve`.
 
-A file is written whole or not at all: beside its place first, and then moved there.
+A file is written whole or not at all: beside its place first, and then moved there. Pipes and devices are written as they are.
 """
 from __future__ import annotations
 
+import io
 import os
 import shutil
+import stat
 import subprocess
 import sys
 import tempfile
 import threading
 from contextlib import contextmanager
-from typing import Iterator, Optional
+from typing import BinaryIO, Callable, Iterator, Optional
 
 from tools.words import Fault, visible
 
 SLOW = 1.0  # seconds after which people hear of a step
 TOP = os.path.dirname(os.path.dirname(os.path.abspath(__file__)))
+KEPT: dict[str, bytes] = {}  # what was read of files that can be read once
 
 
 class Failure(Exception):
@@ -34,43 +37,148 @@ def shown_path(path: str) -> str:
     return "standard input" if path == "-" else path
 
 
+def is_passing(path: str) -> bool:
+    """Whether a file can be read just once: standard input, or a pipe."""
+    try:
+        return path == "-" or stat.S_ISFIFO(os.stat(path).st_mode)
+    except OSError:
+        return False
+
+
 def read_bytes(path: str) -> bytes:
     """The bytes of a file; `-` is standard input."""
+    if path in KEPT:
+        raise Failure(shown_path(path), None, "can be one file alone, and was read already")
     try:
-        if path == "-":
-            return sys.stdin.buffer.read()
-        with open(path, "rb") as source:
-            return source.read()
+        with standard_input() if path == "-" else open(path, "rb") as source:
+            data = source.read()
+    except OSError as error:
+        raise Failure(shown_path(path), None, f"can't be read: {error.strerror}") from None
+    if is_passing(path):
+        KEPT[path] = data
+    return data
+
+
+@contextmanager
+def standard_input() -> Iterator[BinaryIO]:
+    """Standard input, which stays open."""
+    if sys.stdin is None:
+        raise Failure(shown_path("-"), None, "can't be read: it is closed")
+    yield sys.stdin.buffer
+
+
+def read_again(path: str) -> bytes:
+    """The bytes of a file that may have been read already."""
+    return KEPT[path] if path in KEPT else read_bytes(path)
+
+
+def open_bytes(path: str) -> BinaryIO:
+    """A file to read piece by piece; one that can be read just once is read whole."""
+    if is_passing(path):
+        return io.BytesIO(read_bytes(path))
+    try:
+        return open(path, "rb")
     except OSError as error:
         raise Failure(shown_path(path), None, f"can't be read: {error.strerror}") from None
 
 
+@contextmanager
+def as_files(*paths: str) -> Iterator[list[str]]:
+    """Paths for another program: what can be read just once is in a file, as it was read here."""
+    with tempfile.TemporaryDirectory(prefix="resolve-tools-") as folder:
+        found = list(paths)
+        for at, path in enumerate(paths):
+            if is_passing(path):
+                found[at] = os.path.join(folder, str(at))
+                replace_file(found[at], read_again(path))
+        yield found
+
+
 def write_bytes(path: Optional[str], data: bytes) -> None:
-    """Writes standard output, or a file as a whole: nothing is changed where that fails."""
-    if path is None:
-        sys.stdout.buffer.write(data)
-        sys.stdout.buffer.flush()
+    """Writes standard output (None or `-`), or a file as a whole: nothing is changed where that fails."""
+    if path is None or path == "-":
+        write_output(data)
         return
     try:
-        replace_file(path, data)
+        if os.path.exists(path) and not os.path.isfile(path) and not os.path.isdir(path):
+            with open(path, "wb") as out:
+                out.write(data)
+        else:
+            replace_file(path, data)
     except OSError as error:
         raise Failure(path, None, f"can't be written: {error.strerror}") from None
 
 
+def write_output(data: bytes) -> None:
+    """Writes standard output."""
+    if sys.stdout is None:
+        raise Failure("standard output", None, "can't be written: it is closed")
+    try:
+        sys.stdout.buffer.write(data)
+        sys.stdout.buffer.flush()
+    except BrokenPipeError:
+        raise
+    except OSError as error:
+        drop_output()
+        raise Failure("standard output", None, f"can't be written: {error.strerror}") from None
+
+
+def drop_output() -> None:
+    """What is still to be written to standard output goes nowhere, so that Python doesn't try again as it ends."""
+    try:
+        os.dup2(os.open(os.devnull, os.O_WRONLY), sys.stdout.fileno())
+    except OSError:
+        pass
+
+
+def status_of(command: Callable[[], None]) -> int:
+    """Runs a command and gives its exit status; an error is a line on standard error."""
+    KEPT.clear()
+    try:
+        command()
+    except Failure as failure:
+        complain(str(failure))
+        return failure.status
+    except BrokenPipeError:
+        drop_output()
+        return 2
+    except MemoryError:
+        complain("no memory")
+        return 2
+    except KeyboardInterrupt:
+        return 130  # as a shell has it
+    return 0
+
+
+def complain(text: str) -> None:
+    """A line on standard error, if that is open."""
+    try:
+        if sys.stderr is not None:
+            print(f"tools: {text}", file=sys.stderr, flush=True)
+    except OSError:
+        pass
+
+
 def replace_file(path: str, data: bytes) -> None:
-    """Writes a new file beside the old one and moves it over that."""
-    folder = os.path.dirname(os.path.abspath(path))
+    """Writes a new file beside the old one and moves it over that; the file keeps its links and its mode."""
+    path = os.path.realpath(path)
+    folder = os.path.dirname(path)
     handle, beside = tempfile.mkstemp(prefix=".resolve-tools-", dir=folder)
     try:
         with os.fdopen(handle, "wb") as out:
             out.write(data)
-        mask = os.umask(0)
-        os.umask(mask)
-        os.chmod(beside, 0o666 & ~mask)
+        os.chmod(beside, mode_of(path))
         os.replace(beside, path)
     except BaseException:
         os.unlink(beside)
         raise
+
+
+def mode_of(path: str) -> int:
+    """The mode of a file, or that of a new one."""
+    mask = os.umask(0)
+    os.umask(mask)
+    return stat.S_IMODE(os.stat(path).st_mode) if os.path.isfile(path) else 0o666 & ~mask
 
 
 @contextmanager
@@ -85,7 +193,7 @@ def of_file(path: str) -> Iterator[None]:
 @contextmanager
 def progress(what: str) -> Iterator[None]:
     """Reports on standard error what is in progress, if it takes longer than SLOW seconds."""
-    timer = threading.Timer(SLOW, lambda: print(f"tools: {what} ..", file=sys.stderr, flush=True))
+    timer = threading.Timer(SLOW, complain, [f"{what} .."])
     timer.daemon = True
     timer.start()
     try:

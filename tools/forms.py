@@ -15,7 +15,7 @@ from tools.catalogue import decoded, encoded
 from tools.dictionary import Dictionary
 from tools.files import Failure
 from tools.reports import Install, Literal, Refused, Report, read_report, report_text
-from tools.words import Fault, Spec, Version
+from tools.words import MOST_DIGITS, Fault, Spec, Version
 
 FORMAT = "resolve report 1"
 ANSWERS = {"entry": reports.Entry, "wished": reports.WishedEntry, "left out": reports.LeftOut}
@@ -226,8 +226,14 @@ def read_json(data: bytes, path: str) -> Report:
         raise Failure(path, data[:error.start].count(b"\n") + 1, "isn't UTF-8") from None
     except json.JSONDecodeError as error:
         raise Failure(path, error.lineno, f"isn't JSON: {error.msg}") from None
-    except (BadForm, RecursionError) as error:
+    except UnicodeEncodeError:
+        raise Failure(path, None, "has half a sign of two parts (a surrogate), which no report has") from None
+    except BadForm as error:
         raise Failure(path, None, str(error)) from None
+    except ValueError:
+        raise Failure(path, None, f"has a number of more than {MOST_DIGITS} digits") from None
+    except RecursionError:
+        raise Failure(path, None, "is nested too deep") from None
     except Fault as fault:
         raise Failure(path, None, f"line {fault.line} of its report: {fault.reason}") from None
     return report

@@ -2,8 +2,6 @@
 from __future__ import annotations
 
 import argparse
-import os
-import sys
 from functools import lru_cache
 from typing import Callable, Optional, Sequence
 
@@ -11,7 +9,7 @@ from tools import texts, view
 from tools.apt_solver import main as solve_for_apt
 from tools.bundle import CatalogueFile, load, load_catalogue, load_request
 from tools.debian import apt_lists, import_debian, native_architecture
-from tools.files import Failure, of_file, progress, read_bytes, run_program, shown_path, write_bytes
+from tools.files import Failure, as_files, of_file, progress, read_bytes, run_program, shown_path, status_of, write_bytes
 from tools.imports import add_imports
 from tools.judge import refusal
 from tools.lock import Lock, check_lock, lock_of, lock_text, locked_versions, mark_lines, plan_lines, read_lock
@@ -27,7 +25,8 @@ ABOUT = """What people need around `resolve`: lock files, reports to look at, th
   resolve-tools view tree app.catalogue app.request app.report"""
 STATUSES = """exit status: 0 done (install, yes); 1 no (a version is gone, a lock or report that doesn't hold, a view that
 the report hasn't); 2 a fault (of a file, of the command line). Errors are `tools: FILE: line N: reason`, and then
-nothing is written. `-` as a file is standard input."""
+nothing is written. `-` as a file is standard input, which can be one file alone; as the file of --out it is standard
+output. A pipe or a device that --out names is written as it is."""
 Handler = Callable[[argparse.Namespace], Optional[bytes]]
 
 
@@ -132,7 +131,8 @@ def lock_check(args: argparse.Namespace) -> bytes:
     if not isinstance(report, texts.Install):
         raise Failure(args.report, 1, "is a refusal, which locks nothing", 1)
     check_lock(lock, args.lock, expected, {"catalogue": args.catalogue, "report": args.report})
-    status, said = run_program(args.resolve, "judge", args.catalogue, args.request, args.report)
+    with as_files(args.catalogue, args.request, args.report) as paths:
+        status, said = run_program(args.resolve, "judge", *paths)
     if status != 0:
         raise Failure(args.report, None, f"`resolve judge` says `{said.decode().strip()}`", 1)
     return f"yes: {len(lock.entries)} entries, and the report is judged right\n".encode()
@@ -339,17 +339,10 @@ def make_parser() -> argparse.ArgumentParser:
 def main(arguments: Optional[Sequence[str]] = None) -> int:
     """Runs a command and answers its exit status."""
     args = make_parser().parse_args(arguments)
-    try:
+
+    def command() -> None:
         output = args.handle(args)
         if output is not None:
             write_bytes(getattr(args, "out", None), output)
-    except Failure as failure:
-        print(f"tools: {failure}", file=sys.stderr)
-        return failure.status
-    except BrokenPipeError:
-        os.dup2(os.open(os.devnull, os.O_WRONLY), sys.stdout.fileno())
-        return 2
-    except MemoryError:
-        print("tools: no memory", file=sys.stderr)
-        return 2
-    return 0
+
+    return status_of(command)

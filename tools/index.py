@@ -14,7 +14,7 @@ from typing import Iterable, Mapping, NamedTuple, Optional, Protocol, Union
 from tools.catalogue import MOST_BYTES, Catalogue, CatalogueLine, ExcludeLine, LimitsLine, NeedsLine, Request
 from tools.catalogue import RequestLine, SkippedLine, UnknownLine, VersionLine, catalogue_text, request_text
 from tools.dictionary import Dictionary, check_word, escape
-from tools.files import Failure, read_bytes
+from tools.files import Failure, read_again, read_bytes
 from tools.words import Bad, Spec, Version
 
 
@@ -242,7 +242,7 @@ def files_below(folder: str) -> list[str]:
 def sum_of_files(paths: Iterable[str], top: str) -> str:
     """One sum for files: that of the file itself, or of all names and sums where there is a folder."""
     if not os.path.isdir(top):
-        return "sha256:" + hashlib.sha256(read_bytes(top)).hexdigest()
+        return "sha256:" + hashlib.sha256(read_again(top)).hexdigest()
     whole = hashlib.sha256()
     for path in paths:
         name = os.path.relpath(path, top).encode("utf-8", "surrogateescape")

@@ -15,7 +15,7 @@ from typing import Optional
 sys.path.insert(0, os.path.join(os.path.dirname(os.path.abspath(__file__)), ".."))
 
 from tools.cnf import Origin
-from tools.files import Failure, of_file, progress, read_bytes, write_bytes
+from tools.files import of_file, progress, read_bytes, status_of, write_bytes
 from tools.replay import Replay, rested_on
 from tools.texts import Catalogue, DeriveStep, Fault, LeftOut, Refused, Report, Request, Version, WishLine
 from tools.texts import read_catalogue, read_report, read_request
@@ -109,18 +109,14 @@ def write_export(given: argparse.Namespace) -> None:
     for suffix, text in (("cnf", made.cnf.text()), ("drat", made.proof.drat()), ("lrat", made.proof.lrat())):
         write_bytes(f"{given.prefix}.{suffix}", text.encode())
     clauses, lines = len(made.cnf.clauses), len(made.proof.lines)
-    print(f"{len(made.cnf.names)} variables and {clauses} clauses; a proof of {lines} lines")
+    write_bytes(None, f"{len(made.cnf.names)} variables and {clauses} clauses; a proof of {lines} lines\n".encode())
 
 
 def main() -> int:
-    try:
-        options = argparse.ArgumentParser(description=ABOUT)
-        add_arguments(options)
-        write_export(options.parse_args())
-    except Failure as failure:
-        print(f"tools: {failure}", file=sys.stderr)
-        return failure.status
-    return 0
+    options = argparse.ArgumentParser(description=ABOUT)
+    add_arguments(options)
+    given = options.parse_args()
+    return status_of(lambda: write_export(given))
 
 
 if __name__ == "__main__":

@@ -7,6 +7,8 @@ from functools import lru_cache, total_ordering
 from itertools import zip_longest
 from typing import Callable, Union
 
+from tools.words import MOST_DIGITS, has_long_number
+
 VERSION = re.compile(r"[*.+!_0-9a-z]+\Z")
 PIECES = re.compile(r"[0-9]+|[*]+|[^0-9*]+")
 RELATION = re.compile(r"(==|!=|<=|>=|~=|<|>|=)(?![=<>!~])(\S+)\Z")
@@ -31,6 +33,8 @@ def read_parts(texts: list[str]) -> list[Part]:
         pieces = PIECES.findall(text)
         if not pieces:
             raise Bad("isn't a version: a part is empty")
+        if has_long_number(text):
+            raise Bad(f"isn't a version: a number has more than {MOST_DIGITS} digits")
         words = {"post": float("inf"), "dev": "DEV"}
         part: Part = [int(piece) if piece.isdigit() else words.get(piece, piece) for piece in pieces]
         found.append(part if text[0].isdigit() else [0, *part])

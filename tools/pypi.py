@@ -7,10 +7,12 @@ requires_python, provides_extra, yanked}, as a list or an object a line. docs/MA
 """
 from __future__ import annotations
 
+import lzma
 import os
 import re
 import warnings
 import zipfile
+import zlib
 from dataclasses import dataclass, field as default
 from typing import Any, Iterable, Iterator, Optional
 
@@ -22,6 +24,7 @@ except ImportError:
 from tools.files import Failure, read_bytes
 from tools.index import Limits, Match, Needs, Release, Rule, checked_text, files_below, sum_of_files
 from tools.stream import JsonStream, field, json_entries, texts_field
+from tools.words import MOST_DIGITS, has_long_number, quoted
 
 EXTRA_NAME = re.compile(r"""\bextra\s*==\s*["']([^"']*)["']|["']([^"']*)["']\s*==\s*extra\b""")
 NAME = re.compile(r"[A-Za-z0-9](?:[A-Za-z0-9._-]*[A-Za-z0-9])?\Z")
@@ -64,7 +67,7 @@ class Project:
 def checked_name(name: str, where: tuple[str, int]) -> str:
     """A name of a project or an extra, normalised; raises Failure."""
     if not NAME.match(name):
-        raise Failure(*where, f"`{name}` isn't a name by PEP 508")
+        raise Failure(*where, f"{quoted(name)} isn't a name by PEP 508")
     return canonical(name)
 
 
@@ -77,14 +80,14 @@ def read_version(text: str, path: str, line: int) -> Any:
     """A version; raises Failure."""
     try:
         return versions.Version(text)
-    except versions.InvalidVersion:
-        raise Failure(path, line, f"`{text}` isn't a version by PEP 440") from None
+    except ValueError:
+        raise Failure(path, line, f"{quoted(text)} isn't a version by PEP 440") from None
 
 
 def check_specifiers(found: Any, text: str, where: tuple[str, int]) -> Any:
     """Specifiers of PEP 440 alone; older ones are refused."""
-    if any(type(each).__name__ == "LegacySpecifier" for each in found):
-        raise Failure(*where, f"`{text}` isn't a specifier by PEP 440")
+    if any(type(each).__name__ == "LegacySpecifier" for each in found) or has_long_number(text):
+        raise Failure(*where, f"{quoted(text)} isn't a specifier by PEP 440")
     return found
 
 
@@ -94,8 +97,8 @@ def read_specifiers(text: str, where: tuple[str, int]) -> Any:
         with warnings.catch_warnings():
             warnings.simplefilter("ignore")
             return check_specifiers(specifiers.SpecifierSet(text), text, where)
-    except specifiers.InvalidSpecifier:
-        raise Failure(*where, f"`{text}` isn't a specifier by PEP 440") from None
+    except ValueError:
+        raise Failure(*where, f"{quoted(text)} isn't a specifier by PEP 440") from None
 
 
 def read_requirement(text: str, where: tuple[str, int]) -> Any:
@@ -104,8 +107,10 @@ def read_requirement(text: str, where: tuple[str, int]) -> Any:
         with warnings.catch_warnings():
             warnings.simplefilter("ignore")
             found = requirements.Requirement(text)
-    except (requirements.InvalidRequirement, ValueError):
-        raise Failure(*where, f"`{text}` isn't a requirement by PEP 508") from None
+        if has_long_number(text):
+            raise ValueError
+    except ValueError:
+        raise Failure(*where, f"{quoted(text)} isn't a requirement by PEP 508") from None
     check_specifiers(found.specifier, text, where)
     return found
 
@@ -174,7 +179,7 @@ def wheel_metadata(path: str) -> bytes:
             if len(names) != 1:
                 raise Failure(path, None, "has no METADATA")
             return wheel.read(names[0])
-    except (OSError, zipfile.BadZipFile) as error:
+    except (OSError, EOFError, RuntimeError, ValueError, lzma.LZMAError, zipfile.BadZipFile, zlib.error) as error:
         raise Failure(path, None, f"isn't a wheel: {error}") from None
 
 
@@ -209,6 +214,8 @@ def read_environment(path: Optional[str]) -> dict[str, str]:
         if key not in environment:
             raise Failure(*where, f"`{key}` is no variable of markers: {', '.join(sorted(environment))}")
         environment[key] = field(given, key, str, ..., where)
+        if has_long_number(environment[key]):
+            raise Failure(*where, f"`{key}` has a number of more than {MOST_DIGITS} digits")
     read_version(environment["python_full_version"], *where)
     return environment
 

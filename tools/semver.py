@@ -8,6 +8,8 @@ import re
 from dataclasses import dataclass
 from typing import NamedTuple, Optional
 
+from tools.words import has_long_number
+
 PRE = r"(?:-([0-9A-Za-z.-]+))?"
 BUILD = r"(?:\+([0-9A-Za-z.-]+))?"
 NUMBER = r"(0|[1-9][0-9]*)"
@@ -53,7 +55,7 @@ class Semver(NamedTuple):
 def read_semver(text: str) -> Semver:
     """A version; raises Bad."""
     found = VERSION.match(text)
-    if found is None or any(int(found[at]) > MOST for at in (1, 2, 3)):
+    if found is None or has_long_number(text) or any(int(found[at]) > MOST for at in (1, 2, 3)):
         raise Bad("isn't a version")
     return Semver(int(found[1]), int(found[2]), int(found[3]), read_pre(found[4]), found[5] or "")
 
@@ -126,7 +128,7 @@ class Comparator:
 def read_comparator(text: str) -> Comparator:
     """One part of a requirement; raises Bad."""
     found = COMPARATOR.match(text)
-    if found is None:
+    if found is None or has_long_number(text):
         raise Bad("isn't a requirement")
     operator, major, minor, patch, pre, _ = found.groups()
     wild = [part is not None and part in "*xX" for part in (minor, patch)]

@@ -8,7 +8,8 @@ import codecs
 import json
 from typing import Any, Iterator
 
-from tools.files import Failure, shown_path
+from tools.files import Failure, open_bytes, shown_path
+from tools.words import MOST_DIGITS
 
 PIECE = 2**18
 BLANK = " \t\r\n"
@@ -20,10 +21,7 @@ class JsonStream:
     def __init__(self, path: str) -> None:
         self.path, self.text, self.at, self.line, self.ended = path, "", 0, 1, False
         self.bytes_read = 0
-        try:
-            self.file = open(path, "rb")
-        except OSError as error:
-            raise Failure(shown_path(path), None, f"can't be read: {error.strerror}") from None
+        self.file = open_bytes(path)
         self.decode = codecs.getincrementaldecoder("utf-8")().decode
 
     def close(self) -> None:
@@ -85,6 +83,8 @@ class JsonStream:
                 if self.ended:
                     line = self.line + self.text.count("\n", self.at, error.pos)
                     raise self.fail(f"isn't JSON: {error.msg}", line) from None
+            except ValueError:
+                raise self.fail(f"has a number of more than {MOST_DIGITS} digits") from None
             except RecursionError:
                 raise self.fail("is nested too deep") from None
             self.fill()

@@ -18,7 +18,7 @@ import sys
 from tools.bundle import Bundle, load_catalogue
 from tools.dictionary import RealSpelling
 from tools.explain import explanation, left_lines, left_out, named_lines, tree_lines, why_lines
-from tools.files import Failure, of_file, read_bytes
+from tools.files import Failure, of_file, read_bytes, shown_path
 from tools.forms import read_json, report_json
 from tools.message import message_line, plain_text, read_sentence, real_text
 from tools.page import page
@@ -132,7 +132,7 @@ def json_view(bundle: Bundle) -> bytes:
 
 def json_back(path: str) -> bytes:
     """The bytes of the report whose JSON is in the file."""
-    return report_text(read_json(read_bytes(path), path))
+    return report_text(read_json(read_bytes(path), shown_path(path)))
 
 
 def view_failure(path: str, wrong: WrongKind) -> Failure:

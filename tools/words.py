@@ -13,6 +13,8 @@ NAME = re.compile(r"[A-Za-z0-9_][A-Za-z0-9_.-]*\Z")
 NUM = re.compile(r"(0|[1-9][0-9]{0,9})\Z")
 RESERVED = ("if", "and", "or")
 LARGEST = 2**32 - 1
+MOST_DIGITS = 4300  # of a number in a text of an ecosystem: more than that Python doesn't read, since it takes the square
+LONG_NUMBER = re.compile(rf"[0-9]{{{MOST_DIGITS + 1}}}")
 MOST_SPECS = 16
 DEEPEST = 16
 # What may follow a package without a span in a SPEC.
@@ -153,6 +155,11 @@ def visible(text: str) -> str:
 def quoted(word: str) -> str:
     """A word of a text for a message: in quotes, cut where it is long."""
     return f"`{visible(word[:60])}`" + (" .." if len(word) > 60 else "")
+
+
+def has_long_number(text: str) -> bool:
+    """Whether the text has a number of too many digits."""
+    return len(text) > MOST_DIGITS and LONG_NUMBER.search(text) is not None
 
 
 def number_of(word: str) -> int:

@@ -1,0 +1,194 @@
+"""Files in and out: standard input and pipes, links, devices, closed and full outputs; numbers of too many digits."""
+from __future__ import annotations
+
+import gzip
+import io
+import os
+import subprocess
+import sys
+import threading
+import unittest
+import zipfile
+from unittest import mock
+
+from tools import front
+from tools.files import TOP
+from tools.tests.base import FolderCase, data_bytes, data_path, run
+
+TREE = ("view", "tree", *map(data_path, ("app.catalogue", "app.request", "app.report")))
+LONG = "9" * 4301
+METADATA = "Metadata-Version: 2.1\nName: a\nVersion: 1\n\n"
+
+
+def run_over(data: bytes, *arguments: str) -> tuple[int, bytes, str]:
+    """Runs `resolve-tools` with these bytes as standard input."""
+    with mock.patch.object(sys, "stdin", io.TextIOWrapper(io.BytesIO(data))):
+        return run(*arguments)
+
+
+def run_shell(words: str) -> tuple[int, bytes, bytes]:
+    """Runs `resolve-tools` in a shell, which opens and closes its files."""
+    program = os.path.join(TOP, "tools", "resolve-tools")
+    done = subprocess.run(f"'{program}' {words}", shell=True, capture_output=True)
+    return done.returncode, done.stdout, done.stderr
+
+
+class OutputTest(FolderCase):
+    """Where the output goes."""
+
+    def test_a_full_or_closed_output_is_a_fault(self) -> None:
+        words = " ".join(f"'{word}'" for word in TREE)
+        self.assertEqual(run_shell(f"{words} > /dev/full"), (2, b"", b"tools: standard output: can't be written: No space left on device\n"))
+        self.assertEqual(run_shell(f"{words} >&-"), (2, b"", b"tools: standard output: can't be written: it is closed\n"))
+        self.assertEqual(run_shell("check - <&-"), (2, b"", b"tools: standard input: can't be read: it is closed\n"))
+        self.assertEqual(run_shell("check /nope 2>&-"), (2, b"", b""))
+        self.assertEqual(run_shell("check /nope 2>/dev/full"), (2, b"", b""))
+
+    def test_a_link_stays_and_the_file_behind_it_is_written(self) -> None:
+        behind, link = self.write("behind", "old"), self.path("link")
+        os.chmod(behind, 0o640)
+        os.symlink("behind", link)
+        self.assertEqual(run(*TREE, "--out", link), (0, b"", ""))
+        self.assertTrue(os.path.islink(link))
+        with open(behind, "rb") as source:
+            self.assertEqual(source.read(), run(*TREE)[1])
+        self.assertEqual(os.stat(behind).st_mode & 0o777, 0o640)
+
+    def test_a_pipe_is_written_as_it_is(self) -> None:
+        pipe, found = self.path("pipe"), []
+        os.mkfifo(pipe)
+
+        def read() -> None:
+            with open(pipe, "rb") as source:
+                found.append(source.read())
+
+        reader = threading.Thread(target=read)
+        reader.start()
+        self.assertEqual(run(*TREE, "--out", pipe), (0, b"", ""))
+        reader.join()
+        self.assertEqual((found, os.listdir(self.folder)), ([run(*TREE)[1]], ["pipe"]))
+
+    def test_a_minus_is_standard_output(self) -> None:
+        self.assertEqual(run(*TREE, "--out", "-"), run(*TREE))
+
+    def test_an_interrupt_ends_it_without_a_word(self) -> None:
+        with mock.patch.object(front, "write_bytes", side_effect=KeyboardInterrupt):
+            self.assertEqual(run(*TREE), (130, b"", ""))
+
+
+class InputTest(FolderCase):
+    """What is read."""
+
+    def test_standard_input_is_one_file(self) -> None:
+        data = data_bytes("app.catalogue")
+        self.assertEqual(run_over(data, "check", "-"), (0, b"no fault\n", ""))
+        error = "tools: standard input: can be one file alone, and was read already\n"
+        self.assertEqual(run_over(data, "check", "-", "-"), (2, b"", error))
+
+    def test_importers_read_standard_input(self) -> None:
+        for words, text in (
+            (("pypi", "catalogue"), '{"name": "a", "version": "1"}'),
+            (("cargo", "catalogue"), '{"name": "a", "vers": "1.0.0", "deps": [], "features": {}}'),
+            (("conda", "catalogue"), '{"packages": {}}'),
+            (("debian", "--arch", "amd64"), "Package: a\nVersion: 1\nArchitecture: all\n"),
+        ):
+            as_file = run(*words, self.write("index", text))
+            self.assertEqual(as_file[0], 0, as_file)
+            self.assertEqual(run_over(text.encode(), *words, "-"), as_file)
+
+    def test_a_pipe_has_the_sum_of_what_was_read(self) -> None:
+        for words, text in ((("pypi", "catalogue"), '{"name": "a", "version": "1"}'),
+                            (("cudf", "convert"), "package: a\nversion: 1\n\nrequest: \n")):
+            as_file, pipe = run(*words, self.write("index", text)), self.path(words[0])
+            os.mkfifo(pipe)
+            writer = threading.Thread(target=self.write, args=(words[0], text))
+            writer.start()
+            self.assertEqual(run(*words, pipe), as_file)
+            writer.join()
+
+    def test_a_lock_is_checked_over_standard_input(self) -> None:
+        catalogue, request, report = map(data_path, ("app.catalogue", "app.request", "app.report"))
+        lock, program = self.path("lock"), self.write("program", '#!/bin/sh\ncmp -s "$3" "$WANTED" && echo yes\n')
+        os.chmod(program, 0o755)
+        self.assertEqual(run("lock", "write", catalogue, report, "--out", lock)[0], 0)
+        with mock.patch.dict(os.environ, {"WANTED": request}):
+            found = run_over(data_bytes("app.request"), "lock", "check", "--resolve", program, lock, catalogue, "-", report)
+        self.assertEqual(found, (0, b"yes: 3 entries, and the report is judged right\n", ""))
+
+
+class LongNumberTest(FolderCase):
+    """Python reads no number of more than 4,300 digits, and each is a fault at its line."""
+
+    def assert_line(self, line: str, text: str | bytes, *arguments: str) -> None:
+        """The command over this file names it and the line, and writes nothing."""
+        path = self.write("x", text)
+        status, out, error = run(*arguments, path)
+        self.assertEqual((status, out, error.count("\n")), (2, b"", 1))
+        self.assertTrue(error.startswith(f"tools: {path}: {line}"), error[:300])
+        self.assertLess(len(error), 400)
+
+    def test_debian(self) -> None:
+        for at, text in ((2, f"Package: a\nVersion: {LONG}\nArchitecture: all\n\n"),
+                         (4, f"Package: a\nVersion: 1\nArchitecture: all\nDepends: a (>= 1-{LONG})\n\n")):
+            self.assert_line(f"line {at}: `", text, "debian", "--arch", "amd64")
+
+    def test_pypi(self) -> None:
+        for member in (f'"version": "{LONG}"', f'"version": "1", "x": {LONG}', f'"version": "1", "requires_python": "<{LONG}"',
+                       f'"version": "1", "requires_dist": ["a; python_version < \'{LONG}\'"]',
+                       f'"version": "1", "requires_dist": ["a <{LONG}"]'):
+            self.assert_line("line 2: ", f'\n{{"name": "a", {member}}}\n', "pypi", "catalogue")
+
+    def test_cargo(self) -> None:
+        for version, req in ((f"{LONG}.0.0", "1"), (f"1.0.0-{LONG}", "1"), ("1.0.0", LONG), ("1.0.0", f"<1.0.0-{LONG}")):
+            entry = f'\n{{"name": "a", "vers": "{version}", "deps": [{{"name": "a", "req": "{req}"}}], "features": {{}}}}\n'
+            self.assert_line("line 2: `", entry, "cargo", "catalogue")
+        index = self.write("index", '{"name": "a", "vers": "1.0.0", "deps": [], "features": {}}\n')
+        for text in (f'[package]\nname = "b"\nversion = "{LONG}.0.0"\n', f"x = {LONG}\n", "x = " + "[" * 100_000):
+            self.assert_line("", text, "cargo", "catalogue", index, "--manifest")
+
+    def test_conda(self) -> None:
+        for version, number, spec in ((LONG, "0", "a"), (f"{LONG}!1", "0", "a"), ("1", LONG, "a"), ("1", "0", f"a <{LONG}")):
+            entry = f'{{"name": "a", "version": "{version}", "build": "0", "build_number": {number}, "depends": ["{spec}"]}}'
+            self.assert_line("line 2: ", f'{{"packages": {{\n"a": {entry}}}}}', "conda", "catalogue")
+
+    def test_cudf(self) -> None:
+        for at, text in ((2, f"package: a\nversion: {LONG}\n\nrequest: \n"),
+                         (3, f"package: a\nversion: 1\ndepends: a > {LONG}\n\nrequest: \n"),
+                         (2, f"preamble: \nproperty: x: int = [{LONG}]\n\nrequest: \n")):
+            self.assert_line(f"line {at}: `", text, "cudf", "convert")
+
+    def test_json_of_a_report(self) -> None:
+        self.assert_line("has a number of more than 4300 digits", f'{{"format": {LONG}}}', "view", "json", "--back")
+        self.assert_line("is nested too deep", "[" * 100_000, "view", "json", "--back")
+        half = '{"format": "resolve report 1", "verdict": "refused", "catalogue_lines": [], "request_lines": [], "steps": [], "message": ["\\ud800"]}'
+        self.assert_line("has half a sign", half, "view", "json", "--back")
+
+
+class DamageTest(FolderCase):
+    """Files that are packed otherwise, or have other ends of lines."""
+
+    def test_wheels_that_cannot_be_unpacked(self) -> None:
+        with zipfile.ZipFile(self.path("a.whl"), "w", zipfile.ZIP_DEFLATED) as wheel:
+            wheel.writestr("a-1.dist-info/METADATA", METADATA + "x" * 100)
+        with open(self.path("a.whl"), "rb") as source:
+            good = source.read()
+        central = good.find(b"PK\x01\x02")
+        body = 30 + len("a-1.dist-info/METADATA")
+        for places, byte in (([6, central + 8], 1), ([8, central + 10], 97), ([central + 6], 99), (range(body, body + 20), 0xff)):
+            bad = bytearray(good)
+            for place in places:
+                bad[place] = byte
+            path = self.write("a.whl", bytes(bad))
+            status, out, error = run("pypi", "catalogue", self.folder)
+            self.assertEqual((status, out, error.count("\n")), (2, b"", 1))
+            self.assertTrue(error.startswith(f"tools: {path}: isn't a wheel: "), error)
+
+    def test_carriage_returns_are_no_other_architecture(self) -> None:
+        text = b"Package: a\r\nVersion: 1\r\nArchitecture: amd64\r\n\r\n"
+        for name, data in (("x", text), ("x.gz", gzip.compress(text))):
+            path = self.write(name, data)
+            self.assert_fault(f"{path}: line 1: a carriage return; lines end with a newline alone", "debian", "--arch", "amd64", path)
+
+
+if __name__ == "__main__":
+    unittest.main()
