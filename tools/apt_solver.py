@@ -30,7 +30,7 @@ from tools.apt_walk import Walk
 from tools.catalogue import FavourLine, LimitsLine, LockLine, NeedsLine, Request, RequestLine, WishLine
 from tools.catalogue import Catalogue, CatalogueLine, catalogue_text, request_text
 from tools.debian import PRIORITIES, Draft, Listed, Universe, is_essential
-from tools.dictionary import RealSpelling, escape
+from tools.dictionary import RealSpelling, escape, name_entry
 from tools.files import Failure, of_file, run_program
 from tools.message import message_line
 from tools.reports import Install, Refused, Report, read_report
@@ -87,7 +87,7 @@ def plan_of(scenario: Scenario, walk: Walk, gone: set[str]) -> Plan:
         found = scenario.candidate(name)
         plan.lines.append(NeedsLine((Spec(escape(name), (found.number,) if found else None),)))
         if not found:
-            plan.missing |= {escape(name): name} if escape(name) != name else {}
+            plan.missing |= name_entry(name)
     plan.lines += [LimitsLine(Spec(escape(name), (0,))) for name in drops]
     changed = {*adds, *drops}
     keeps_all = scenario.flag("forbid-remove") or scenario.flag("upgrade")

@@ -83,9 +83,18 @@ def read_dependency(value: Any, where: Where) -> Optional[Dependency]:
     if field(value, "default_features", bool, True, where):
         features += ("default",)
     package = field(value, "package", str, name, where)
+    for each in (name, package):
+        checked_crate(each, where)
     is_optional = field(value, "optional", bool, False, where)
     return Dependency(name, package, requirement(text, where), f"{name} {text}", features, is_optional,
                       value.get("registry") is not None)
+
+
+def checked_crate(name: str, where: Where) -> str:
+    """The name of a crate, which may name a file of an index; raises Failure."""
+    if not CRATE.match(name):
+        raise Failure(*where, f"{quoted(name)} isn't the name of a crate")
+    return name
 
 
 def requirement(text: str, where: Where) -> Requirement:
@@ -115,9 +124,7 @@ def with_implied(features: Features, dependencies: Iterable[Dependency]) -> Feat
 
 def read_entry(entry: dict[str, Any], where: Where) -> tuple[str, Entry]:
     """A line of an index: the crate and the entry."""
-    name, text = field(entry, "name", str, ..., where), field(entry, "vers", str, ..., where)
-    if not CRATE.match(name):
-        raise Failure(*where, f"`{name}` isn't the name of a crate")
+    name, text = checked_crate(field(entry, "name", str, ..., where), where), field(entry, "vers", str, ..., where)
     try:
         version = read_semver(text)
     except Bad as bad:
@@ -343,8 +350,8 @@ class CargoIndex:
 
 def manifest_dependencies(value: dict[str, Any], where: Where) -> Iterator[Dependency]:
     """All dependencies of a manifest, of each kind and target; optional ones too, as Cargo.lock has them."""
-    tables = [value, *field(value, "target", dict, {}, where).values()]
-    for table in tables:
+    targets = field(value, "target", dict, {}, where)
+    for table in (value, *(field(targets, target, dict, {}, where) for target in targets)):
         for kind in ("dependencies", "dev-dependencies", "build-dependencies"):
             for name, given in field(table, kind, dict, {}, where).items():
                 given = {"version": given} if isinstance(given, str) else given
@@ -354,6 +361,8 @@ def manifest_dependencies(value: dict[str, Any], where: Where) -> Iterator[Depen
                 features = texts_field(given, "features", where)
                 features += ("default",) if field(given, "default-features", bool, True, where) else ()
                 package = field(given, "package", str, name, where)
+                for each in (name, package):
+                    checked_crate(each, where)
                 yield Dependency(name, package, requirement(text, where), f"{name} {text}", features)
 
 
@@ -367,15 +376,15 @@ def read_manifest(path: str) -> tuple[str, Entry]:
         raise Failure(path, None, f"can't be read: {error.strerror}") from None
     except (ValueError, RecursionError) as error:
         raise Failure(path, None, f"isn't TOML: {error}") from None
-    package = field(value, "package", dict, ..., where)
-    asked = [v.replace("?", "") for values in field(value, "features", dict, {}, where).values() for v in values]
+    package, features = field(value, "package", dict, ..., where), field(value, "features", dict, {}, where)
+    asked = [text.replace("?", "") for feature in features for text in texts_field(features, feature, where)]
     more = {name: [f for n, _, f in (v.partition("/") for v in asked) if n == name and f] for name in
             {v.partition("/")[0] for v in asked}}
     dependencies = tuple(
         Dependency(d.name, d.package, d.req, d.text, (*d.features, *more.get(d.name, ())))
         for d in manifest_dependencies(value, where)
     )
-    name, text = field(package, "name", str, ..., where), field(package, "version", str, "0.0.0", where)
+    name, text = checked_crate(field(package, "name", str, ..., where), where), field(package, "version", str, "0.0.0", where)
     try:
         version = read_semver(text)
     except Bad as bad:
@@ -388,6 +397,7 @@ def request_rules(index: CargoIndex, texts: Iterable[str]) -> Iterator[Rule]:
     for text in texts:
         asked, _, features = text.partition("/")
         name, _, req = asked.partition("@")
+        checked_crate(name, ("REQUIREMENT", 0))
         wanted = Dependency(name, name, requirement(req or "*", ("REQUIREMENT", 0)), text)
         found, crate = index.matching(wanted), index.crate(name)
         wanted_features: list[Optional[str]] = [f for f in features.split(",") if f]

@@ -19,9 +19,9 @@ from tools.catalogue import MOST_BYTES, Catalogue, CatalogueLine, LimitsLine, Ne
 from tools.catalogue import VersionLine, WishLine, catalogue_text, request_text
 from tools.deb822 import Fields, Group, Record, Relation, read_groups, read_list, read_relation, split_records
 from tools.deb822 import version_key
-from tools.dictionary import Dictionary, escape
+from tools.dictionary import Dictionary, escape, name_entry
 from tools.files import Failure, progress, read_bytes, shown_path
-from tools.words import Bad, Spec, Version
+from tools.words import Bad, Spec, Version, quoted
 
 NEEDS = (("Pre-Depends", "pre-depends"), ("Depends", "depends"))
 LIMITS = (("Conflicts", "conflicts"), ("Breaks", "breaks"))
@@ -29,6 +29,7 @@ PRIORITIES = {"": 0, "required": 1, "important": 2, "standard": 3, "optional": 4
 UNPACKED: dict[str, Callable[[bytes], bytes]] = {
     ".gz": gzip.decompress, ".xz": lzma.decompress, ".lzma": lzma.decompress, ".bz2": bz2.decompress,
 }
+ARCHITECTURE = re.compile(r"[a-z0-9][a-z0-9-]*\Z")
 APT_HELPER = "/usr/lib/apt/apt-helper"
 PROVIDED = re.compile(r"(?:\A|,)\s*([^\s,(:]+)")  # the name in each part of Provides
 Runs = list[tuple[int, int]]  # from .. to below
@@ -285,8 +286,7 @@ class Draft:
 
     def name(self, real: str) -> None:
         """A package with the NAME that it has here."""
-        if escape(real) != real:
-            self.names[escape(real)] = real
+        self.names |= name_entry(real)
 
     def add(self, line: Line, with_source: bool) -> None:
         """A line."""
@@ -413,6 +413,8 @@ def read_roots(universe: Universe, words: list[str]) -> list[tuple[str, str]]:
 
 def import_debian(paths: list[str], native: str, words: list[str], with_source: bool) -> tuple[bytes, bytes]:
     """The catalogue and the request of some files; without roots all packages and an empty request."""
+    if not ARCHITECTURE.match(native):
+        raise Failure("--arch", None, f"{quoted(native)} isn't the name of an architecture")
     with progress("reading the packages"):
         universe, total = load_universe(paths, native)
     roots = read_roots(universe, words)

@@ -67,6 +67,12 @@ def escape(real: str) -> str:
     return "".join(c if kept(at, c) else plain.get(c, f"_x{ord(c):x}_") for at, c in enumerate(real))
 
 
+def name_entry(real: str) -> dict[str, str]:
+    """What `names` has of a real name: nothing where that is its own NAME, or a word of the grammar."""
+    name = escape(real)
+    return {} if name == real or real in RESERVED else {name: real}
+
+
 def check_word(word: str, what: str, forbidden: str = "") -> None:
     """A real name or the text of a version: one word of printable signs; raises Bad."""
     if not word or not word.isprintable() or " " in word:

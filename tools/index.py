@@ -9,13 +9,13 @@ from __future__ import annotations
 import hashlib
 import os
 from dataclasses import dataclass, replace
-from typing import Iterable, Mapping, NamedTuple, Optional, Protocol, Union
+from typing import Iterable, Mapping, NamedTuple, NoReturn, Optional, Protocol, Union
 
 from tools.catalogue import MOST_BYTES, Catalogue, CatalogueLine, ExcludeLine, LimitsLine, NeedsLine, Request
 from tools.catalogue import RequestLine, SkippedLine, UnknownLine, VersionLine, catalogue_text, request_text
-from tools.dictionary import Dictionary, check_word, escape
+from tools.dictionary import Dictionary, check_word, escape, name_entry
 from tools.files import Failure, read_again, read_bytes
-from tools.words import Bad, Spec, Version
+from tools.words import Bad, Spec, Version, quoted
 
 
 class Match(NamedTuple):
@@ -148,8 +148,7 @@ class Builder:
     def package(self, package: str, inside: set[str]) -> None:
         """All lines of a package."""
         name = escape(package)
-        if name != package:
-            self.dictionary.names[name] = package
+        self.dictionary.names.update(name_entry(package))
         for number, text in self.index.listed(package).items():
             version, release = Version(name, number), self.releases[package, number]
             self.lines.append(VersionLine(version))
@@ -185,6 +184,8 @@ def index_catalogue(index: Index, roots: Optional[list[str]], with_sources: bool
     for root in roots or ():
         if not index.listed(root):
             raise Failure(index.path, None, f"no package is named `{root}` (--closure)")
+    if not index.settings.isprintable() or " " in index.settings or not index.settings:
+        raise Failure(index.path, None, f"the settings {quoted(index.settings)} aren't one word of printable signs")
     builder = Builder(index, with_sources)
     packages = builder.reach(sorted(index.packages()) if roots is None else roots)
     for package in packages:
@@ -233,10 +234,15 @@ def checked_name(name: str, path: str, line: int) -> str:
 
 def files_below(folder: str) -> list[str]:
     """All files of a folder and the folders in it, in the order of their names."""
-    found = [os.path.join(top, name) for top, _, names in os.walk(folder) for name in names]
+    found = [os.path.join(top, name) for top, _, names in os.walk(folder, onerror=refuse) for name in names]
     if not found and not os.path.isdir(folder):
         raise Failure(folder, None, "isn't a folder")
     return sorted(found)
+
+
+def refuse(error: OSError) -> NoReturn:
+    """A folder that can't be read isn't passed over."""
+    raise Failure(str(error.filename), None, f"can't be read: {error.strerror}")
 
 
 def sum_of_files(paths: Iterable[str], top: str) -> str:

@@ -5,6 +5,7 @@ import contextlib
 import io
 import os
 import shutil
+import sys
 import tempfile
 import unittest
 from unittest import mock
@@ -69,6 +70,8 @@ class FolderCase(unittest.TestCase):
     def setUp(self) -> None:
         # the progress line after a second, on a busy machine
         self.enterContext(mock.patch("tools.files.SLOW", 600))
+        # the solver for apt raises it, and readers in C then go as deep as the stack breaks
+        self.addCleanup(sys.setrecursionlimit, sys.getrecursionlimit())
         self.folder = tempfile.mkdtemp()
         self.addCleanup(shutil.rmtree, self.folder)
 

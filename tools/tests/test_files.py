@@ -190,5 +190,44 @@ class DamageTest(FolderCase):
             self.assert_fault(f"{path}: line 1: a carriage return; lines end with a newline alone", "debian", "--arch", "amd64", path)
 
 
+class NamesTest(FolderCase):
+    """Names and words of strangers don't become lines of a catalogue, nor paths."""
+
+    def test_words_of_the_grammar_are_names_of_packages(self) -> None:
+        stanzas = "".join(f"Package: {name}\nVersion: 1\nArchitecture: all\n\n" for name in ("if", "and", "or"))
+        entries = "".join(f'{{"name": "{name}", "version": "1"}}\n' for name in ("if", "and", "or"))
+        for words, text in ((("debian", "--arch", "amd64"), stanzas), (("pypi", "catalogue"), entries)):
+            status, out, error = run(*words, self.write("index", text), "--closure", "if", "and", "or")
+            self.assertEqual((status, error, out.count(b"version _w")), (0, "", 3))
+            self.assertEqual(run("check", self.write("catalogue", out)), (0, b"no fault\n", ""))
+
+    def test_settings_are_one_word(self) -> None:
+        path = self.write("index", '{"info": {"subdir": "x\\nversion evil 1"}, "packages": {}}')
+        self.assert_fault(f"{path}: the settings `x\\nversion_evil_1` aren't one word of printable signs", "conda", "catalogue", path)
+        stanza = self.write("stanza", "Package: a\nVersion: 1\nArchitecture: all\n\n")
+        self.assert_fault("--arch: `a b` isn't the name of an architecture", "debian", stanza, "--arch", "a b")
+
+    def test_a_dependency_is_no_path(self) -> None:
+        for name in ("", "../../../etc/passwd", "a b", "a\\nversion evil 1"):
+            entry = f'{{"name": "a", "vers": "1.0.0", "deps": [{{"name": "b", "req": "1", "package": "{name}"}}], "features": {{}}}}'
+            path = self.write("index", entry + "\n")
+            self.assert_fault(f"{path}: line 1: `{name}` isn't the name of a crate", "cargo", "catalogue", path)
+        self.assert_fault("REQUIREMENT: `..` isn't the name of a crate", "cargo", "request", self.folder, "../a")
+
+    def test_a_manifest_of_other_kinds(self) -> None:
+        index = self.write("index", '{"name": "b", "vers": "1.0.0", "deps": [], "features": {}}\n')
+        for text, reason in (("target = {x = 1}", "`x` isn't an object"), ("features = {x = 1}", "`x` isn't a list"),
+                             ("features = {x = [1]}", "`x` isn't a list of texts"),
+                             ('dependencies = {"a b" = "1"}', "`a b` isn't the name of a crate")):
+            path = self.write("manifest", f'{text}\n[package]\nname = "a"\n')
+            self.assert_fault(f"{path}: {reason}", "cargo", "catalogue", index, "--manifest", path)
+
+    @unittest.skipIf(os.geteuid() == 0, "root reads all folders")
+    def test_a_folder_that_cannot_be_read_is_not_passed_over(self) -> None:
+        os.mkdir(self.path("shut"), 0)
+        self.assert_fault(f"{self.path('shut')}: can't be read: Permission denied", "pypi", "catalogue", self.folder)
+        os.chmod(self.path("shut"), 0o700)
+
+
 if __name__ == "__main__":
     unittest.main()
