@@ -31,7 +31,7 @@ from tools.catalogue import FavourLine, LimitsLine, LockLine, NeedsLine, Request
 from tools.catalogue import Catalogue, CatalogueLine, catalogue_text, request_text
 from tools.debian import PRIORITIES, Draft, Listed, Universe, is_essential
 from tools.dictionary import RealSpelling, escape, name_entry
-from tools.files import Failure, of_file, run_program
+from tools.files import Failure, of_file, run_program, standard_input, status_of, write_output
 from tools.message import message_line
 from tools.reports import Install, Refused, Report, read_report
 from tools.words import Spec, Version
@@ -300,8 +300,7 @@ def progress_stanza(percentage: int, message: str) -> str:
 
 def say(text: str) -> None:
     """To apt."""
-    sys.stdout.write(text)
-    sys.stdout.flush()
+    write_output(text.encode("utf-8", "backslashreplace"))
 
 
 def answer(solving: Solving, solved: Solved) -> bool:
@@ -335,7 +334,8 @@ def main() -> int:
     folder = tempfile.mkdtemp(prefix="resolve-apt-")
     is_kept = False
     try:
-        scenario = read_scenario(read_chunks(sys.stdin.buffer))
+        with standard_input() as source:
+            scenario = read_scenario(read_chunks(source))
         solving = Solving(scenario, folder)
         is_kept = answer(solving, solving.run())
     except Failure as failure:
@@ -348,4 +348,4 @@ def main() -> int:
 
 if __name__ == "__main__":
     gc.disable()  # it ends soon, and nothing that it makes is a cycle worth a search
-    sys.exit(main())
+    sys.exit(status_of(main))

@@ -15,10 +15,11 @@ import threading
 from contextlib import contextmanager
 from typing import BinaryIO, Callable, Iterator, Optional
 
-from tools.words import Fault, visible
+from tools.words import Fault, quoted, visible
 
 SLOW = 1.0  # seconds after which people hear of a step
 TOP = os.path.dirname(os.path.dirname(os.path.abspath(__file__)))
+BEGINNINGS = {"solve": (b"install\n", b"refused\n"), "judge": (b"yes\n", b"no line ")}  # of what `resolve` prints, by its status
 KEPT: dict[str, bytes] = {}  # what was read of files that can be read once
 
 
@@ -217,9 +218,15 @@ def find_program(given: Optional[str]) -> str:
 def run_program(given: Optional[str], *arguments: str) -> tuple[int, bytes]:
     """Runs `resolve` and gives its status and output; a fault that it prints is an error."""
     program = find_program(given)
-    with progress(f"{os.path.basename(program)} {arguments[0]}"):
-        done = subprocess.run([program, *arguments], capture_output=True, stdin=subprocess.DEVNULL)
+    try:
+        with progress(f"{os.path.basename(program)} {arguments[0]}"):
+            done = subprocess.run([program, *arguments], capture_output=True, stdin=subprocess.DEVNULL)
+    except OSError as error:
+        raise Failure(program, None, f"can't be run: {error.strerror}") from None
     if done.returncode not in (0, 1):
         said = done.stdout.decode("utf-8", "replace").strip() or f"status {done.returncode}"
         raise Failure(program, None, f"{arguments[0]}: {said}")
+    if not done.stdout.startswith(BEGINNINGS[arguments[0]][done.returncode]):
+        said = quoted(done.stdout.decode("utf-8", "replace"))
+        raise Failure(program, None, f"{arguments[0]}: isn't `resolve`: it prints {said} with status {done.returncode}")
     return done.returncode, done.stdout

@@ -149,7 +149,8 @@ class Solving(FolderCase):
         for number, report in enumerate(reports, 1):
             self.write(f"said{number}", report)
         self.write("got", "")
-        script = f'#!/bin/sh\necho x >> {self.path("got")}\ncat "$3" >> {self.path("asked")}\nexec cat {self.path("said")}$(grep -c x {self.path("got")})\n'
+        said = f'said={self.path("said")}$(grep -c x {self.path("got")})\ncat $said\n! grep -q ^refused $said\n'
+        script = f'#!/bin/sh\necho x >> {self.path("got")}\ncat "$3" >> {self.path("asked")}\n{said}'
         path = self.write("resolve", script)
         os.chmod(path, os.stat(path).st_mode | stat.S_IXUSR)
         options = ["--resolve", path, self.write("in", text), self.path("out"), "-removed,-changed"]

@@ -207,7 +207,7 @@ class Solver(FolderCase):
         self.write("got", "")
         got = self.path("got")
         copy = f'cat "$2" >> {got}; echo --- >> {got}; cat "$3" >> {got}; echo === >> {got}'
-        path = self.write("resolve", f'#!/bin/sh\n{copy}\ncat {self.path("said")}$(grep -c === {got})\n')
+        path = self.write("resolve", f'#!/bin/sh\n{copy}\nsaid={self.path("said")}$(grep -c === {got})\ncat $said\n! grep -q ^refused $said\n')
         os.chmod(path, os.stat(path).st_mode | stat.S_IXUSR)
         out, error = Output(), Output()
         source = io.TextIOWrapper(io.BytesIO(scenario.encode()))

@@ -116,6 +116,36 @@ class InputTest(FolderCase):
         self.assertEqual(found, (0, b"yes: 3 entries, and the report is judged right\n", ""))
 
 
+class ProgramTest(FolderCase):
+    """What is run in the place of `resolve`."""
+
+    def assert_check(self, body: str, wanted: str, status: int = 2) -> None:
+        """`lock check` over a program of these bytes."""
+        texts = list(map(data_path, ("app.catalogue", "app.request", "app.report")))
+        lock, program = self.path("lock"), self.write("program", body)
+        os.chmod(program, 0o755)
+        self.assertEqual(run("lock", "write", texts[0], texts[2], "--out", lock)[0], 0)
+        error = f"tools: {wanted.format(program=program, report=texts[2])}\n"
+        self.assertEqual(run("lock", "check", lock, *texts, "--resolve", program), (status, b"", error))
+
+    def test_a_verdict_is_what_resolve_prints(self) -> None:
+        prints = "{program}: judge: isn't `resolve`: it prints "
+        self.assert_check("#!/bin/sh\n", prints + "`` with status 0")
+        self.assert_check("#!/bin/sh\necho yes\nexit 1\n", prints + "`yes\\n` with status 1")
+        self.assert_check("#!/bin/sh\necho no line 2\n", prints + "`no line 2\\n` with status 0")
+        self.assert_check("#!/bin/sh\necho no line 2\nexit 1\n", "{report}: `resolve judge` says `no line 2`", 1)
+        self.assert_check("#!/bin/sh\nkill -9 $$\n", "{program}: judge: status -9")
+
+    def test_a_file_that_cannot_be_run(self) -> None:
+        self.assert_check("#!/nope\n", "{program}: can't be run: No such file or directory")
+        self.assert_check("\x7fELF", "{program}: can't be run: Exec format error")
+
+    def test_the_solver_for_apt_without_its_files(self) -> None:
+        error = b"tools: standard output: can't be written: it is closed\n"
+        self.assertEqual(run_shell("apt-solver </dev/null >&-"), (2, b"", error))
+        self.assertEqual(run_shell("apt-solver <&-"), (0, b"Error: resolve-fault\nMessage: tools: standard input: can't be read: it is closed\n\n", b""))
+
+
 class LongNumberTest(FolderCase):
     """Python reads no number of more than 4,300 digits, and each is a fault at its line."""
 
