@@ -9,7 +9,7 @@ Over all rows of crates/resolve_rows/data these give the same ending and bytes: 
 over the shared object and over the program, and Rust. Over the small ones C tries every room that is too short, each allocation
 refused in turn, and eight threads at once. It makes 10,000 calls under valgrind, which must leak nothing. Each small pair is given
 a budget of 0, 1, 2, .. by C, Python and Rust. All three give up below one number, and from it on give the answer without a budget.
-`--times` prints what a call costs beside a run of the program.
+The tests that the packages in Python and Rust bring are run too. `--times` prints what a call costs beside a run of the program.
 """
 import os
 import resource
@@ -125,6 +125,18 @@ def check_rows(program, archives, folder):
         print("no cargo: Rust left out")
 
 
+def check_wrappers(program, archives, folder):
+    """The tests that the packages in Python and Rust bring: over the shared object, over the program, and over the archive."""
+    words = [sys.executable, "-m", "unittest", "-q", "discover", "tests"]
+    library = os.path.join(archives, "libresolve.so")
+    for environment in ({"RESOLVE_LIBRARY": library}, {"RESOLVE_LIBRARY": "/nonexistent", "RESOLVE": program}):
+        subprocess.run(words, cwd=os.path.join(TOP, "bindings/python"), env={**os.environ, **environment}, check=True)
+    if shutil.which("cargo"):
+        environment = {**os.environ, "RESOLVE_LIB_DIR": archives, "CARGO_TARGET_DIR": os.path.join(folder, "target")}
+        subprocess.run(["cargo", "test", "--offline", "--quiet"], cwd=os.path.join(TOP, "bindings/rust"), env=environment, check=True)
+    print("the tests of the packages in Python and Rust pass")
+
+
 def examples():
     for catalogue, request in EXAMPLES:
         texts = []
@@ -221,6 +233,7 @@ def main():
         if "--times" in sys.argv:
             print_times(program, archives, folder)
             return
+        check_wrappers(program, archives, folder)
         check_rows(program, archives, folder)
         check_memory(archives, folder)
         check_budgets(archives, folder)

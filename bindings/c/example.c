@@ -31,6 +31,10 @@ static struct text read_file(const char *path)
 		came = fread(text.bytes + text.length, 1, room - text.length, file);
 		text.length += came;
 	} while (came > 0);
+	if (ferror(file)) {
+		perror(path);
+		exit(2);
+	}
 	fclose(file);
 	return text;
 }
@@ -57,6 +61,10 @@ int main(int count, char **words)
 		return 2;
 	}
 	fwrite(report.bytes, 1, report.length, stdout);
+	if (fflush(stdout) != 0) {
+		perror("standard output");
+		return 2;
+	}
 	if (result.ending == RESOLVE_FAULTY)
 		return 2;
 	uint8_t verdict[64];

@@ -87,7 +87,8 @@ class Library:
             self._solve_within.restype = CallResult
 
     def _call(self, function, texts: Sequence[Bytes], *more: int) -> tuple[int, bytes]:
-        arguments = [part for text in map(bytes, texts) for part in (text, len(text))] + list(more)
+        # a memoryview first: `bytes` takes a number too, and gives that many zeros
+        arguments = [part for text in map(bytes, map(memoryview, texts)) for part in (text, len(text))] + list(more)
         room = self.room
         while True:
             out = ctypes.create_string_buffer(room) if room else None
@@ -118,6 +119,8 @@ class Program:
     """The calls as runs of the program, over files in a folder that is removed again."""
 
     LAST_LINES = {b"too long\n": TOO_LONG, b"no memory\n": NO_MEMORY, b"no ids\n": NO_IDS}
+    # how a text begins, by the status: another program named `resolve` doesn't answer so
+    BEGINNINGS = {"solve": (b"install\n", b"refused\n", b"fault at "), "judge": (b"yes\n", b"no line ", b"fault at ")}
 
     def __init__(self, path: Union[str, "os.PathLike[str]"]) -> None:
         self.path = os.fspath(path)
@@ -132,8 +135,11 @@ class Program:
                 ended = subprocess.run([self.path, word, *paths], stdin=subprocess.DEVNULL, stdout=subprocess.PIPE, check=False)
             except OSError as error:
                 raise Unavailable(str(error)) from error
-        if ended.returncode not in (0, 1, 2) or (ended.returncode == 2 and not ended.stdout.startswith(b"fault at ")):
-            raise lack(self.LAST_LINES.get(ended.stdout, ended.returncode))
+        if ended.stdout in self.LAST_LINES and ended.returncode == 2:
+            raise lack(self.LAST_LINES[ended.stdout])
+        if ended.returncode not in (0, 1, 2) or not ended.stdout.startswith(self.BEGINNINGS[word][ended.returncode]):
+            said = ended.stdout[:60].decode("utf-8", "replace").strip()
+            raise Unavailable(f"{self.path} {word}: status {ended.returncode}, and it prints {said!r}")
         return ended.returncode, ended.stdout
 
     def solve(self, catalogue: Bytes, request: Bytes, budget: Optional[int] = None) -> tuple[int, bytes]:

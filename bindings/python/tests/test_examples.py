@@ -1,6 +1,7 @@
 """The repository's examples through whatever backend is there. Run in this folder: python3 -m unittest discover tests"""
 import os
 import sys
+import tempfile
 import unittest
 
 HERE = os.path.dirname(os.path.abspath(__file__))
@@ -33,7 +34,7 @@ class Examples(unittest.TestCase):
         self.assertEqual(answer.text, example("conflict.report"))
         self.assertEqual((answer.catalogue_lines, answer.request_lines), ((), (3, 4)))
         self.assertEqual(len(answer.steps), 5)
-        self.assertTrue(answer.message.startswith("The following packages are incompatible\n├─ http 4"))
+        self.assertTrue(answer.message.startswith("The following packages are incompatible\n├─ http 1..4 can be installed"))
         self.assertEqual(judge(catalogue, request, answer.text), Yes(b"yes\n"))
         self.assertEqual(judge(catalogue, b"needs app\n", answer.text), No(b"no line 2\n", 2))
 
@@ -83,6 +84,23 @@ class Examples(unittest.TestCase):
     def test_bytes_of_any_kind(self):
         catalogue = bytearray(example("app.catalogue"))
         self.assertEqual(solve(catalogue, memoryview(example("app.request"))).text, example("app.report"))
+
+    def test_numbers_and_words_are_no_texts(self):
+        for wrong in (5, "version a 1", None, [1]):
+            self.assertRaises(TypeError, solve, wrong, b"")
+
+    def test_another_program(self):
+        for line in ("", "echo yes", "echo install; exit 1", "echo refused", "echo no line 2", "exit 2", "kill -9 $$"):
+            with tempfile.TemporaryDirectory() as folder:
+                path = os.path.join(folder, "resolve")
+                with open(path, "w") as file:
+                    file.write(f"#!/bin/sh\n{line}\n")
+                os.chmod(path, 0o755)
+                with self.assertRaises(resolve.Unavailable, msg=line):
+                    solve(b"", b"", resolve.Program(path))
+                if line != "echo yes":
+                    with self.assertRaises(resolve.Unavailable, msg=line):
+                        judge(b"", b"", b"install\n", resolve.Program(path))
 
     def test_short_rooms(self):
         backend = resolve.default_backend()

@@ -5,7 +5,7 @@ use std::io::Write;
 use std::process::ExitCode;
 
 fn main() -> ExitCode {
-    let words: Vec<String> = std::env::args().skip(1).collect();
+    let words: Vec<std::ffi::OsString> = std::env::args_os().skip(1).collect();
     let [catalogue, request] = words.as_slice() else {
         eprintln!("usage: solve CATALOGUE REQUEST");
         return ExitCode::from(2);
