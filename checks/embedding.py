@@ -127,7 +127,7 @@ def check_rows(program, archives, folder):
 
 def check_wrappers(program, archives, folder):
     """The tests that the packages in Python and Rust bring: over the shared object, over the program, and over the archive."""
-    words = [sys.executable, "-m", "unittest", "-q", "discover", "tests"]
+    words = [sys.executable, "-m", "unittest", "discover", "-q", "tests"]
     library = os.path.join(archives, "libresolve.so")
     for environment in ({"RESOLVE_LIBRARY": library}, {"RESOLVE_LIBRARY": "/nonexistent", "RESOLVE": program}):
         subprocess.run(words, cwd=os.path.join(TOP, "bindings/python"), env={**os.environ, **environment}, check=True)
