@@ -9,9 +9,11 @@ import re
 import sys
 from collections import defaultdict
 from collections.abc import Iterable
+from typing import TextIO
 
 NUMBER = re.compile(r"0|-?[1-9][0-9]*")
 HEADER = re.compile(r"p cnf (0|[1-9][0-9]*) (0|[1-9][0-9]*)")
+MOST_DIGITS = 4000  # Python reads no number that is much longer
 
 
 class Refused(Exception):
@@ -28,6 +30,7 @@ def numbers(line: str) -> list[int]:
     need(line.endswith("\n"), "no newline at its end")
     words = line[:-1].split(" ")
     need(all(NUMBER.fullmatch(word) for word in words), "not a line of numbers with one space between them")
+    need(all(len(word) <= MOST_DIGITS for word in words), "a number of too many digits")
     return [int(word) for word in words]
 
 
@@ -102,6 +105,7 @@ def read_formula(lines: Iterable[str], checker: Checker) -> None:
             if variables is None:
                 header = HEADER.fullmatch(line.removesuffix("\n"))
                 need(header is not None, "neither a comment nor a header")
+                need(len(line) <= MOST_DIGITS, "a header that is too long")
                 variables, count = int(header[1]), int(header[2])
                 continue
             clause, behind = upto_zero(numbers(line))
@@ -127,14 +131,21 @@ def check(formula: Iterable[str], proof: Iterable[str]) -> int:
     return place
 
 
+def opened(path: str) -> TextIO:
+    """A file as lines; a comment may have any bytes."""
+    return open(path, encoding="ascii", errors="surrogateescape", newline="\n")
+
+
 def main() -> None:
     if len(sys.argv) != 3:
         sys.exit(f"usage: {sys.argv[0]} CNF LRAT")
     try:
-        with open(sys.argv[1], newline="\n") as formula, open(sys.argv[2], newline="\n") as proof:
+        with opened(sys.argv[1]) as formula, opened(sys.argv[2]) as proof:
             print(f"verified: {check(formula, proof)} lines")
     except Refused as fault:
         sys.exit(f"refused: {fault}")
+    except OSError as error:
+        sys.exit(f"refused: {error.filename}: {error.strerror}")
 
 
 if __name__ == "__main__":

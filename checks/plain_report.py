@@ -202,6 +202,9 @@ def main() -> int:
     except texts.Fault as fault:
         print(f"fault at {fault}")
         return 2
+    except OSError as error:
+        print(f"cannot read {error.filename}: {error.strerror}")
+        return 2
     sys.stdout.buffer.write(texts.report_text(found))
     return 1 if isinstance(found, Refused) else 0
 

@@ -146,6 +146,29 @@ class ProgramTest(FolderCase):
         self.assertEqual(run_shell("apt-solver <&-"), (0, b"Error: resolve-fault\nMessage: tools: standard input: can't be read: it is closed\n\n", b""))
 
 
+class CheckTest(FolderCase):
+    """The programs of checks/ that README.md names, over files that are none of theirs."""
+
+    def assert_said(self, name: str, texts: tuple[bytes, bytes], status: int, out: bytes, error: bytes) -> None:
+        """What checks/NAME prints of two files, which are folders where they have no text."""
+        paths = [self.write(name, text) if text else self.folder for name, text in zip("ab", texts)]
+        done = subprocess.run([sys.executable, os.path.join(TOP, "checks", name), *paths], capture_output=True)
+        self.assertEqual((done.returncode, done.stdout, done.stderr), (status, out, error))
+
+    def test_the_plain_search(self) -> None:
+        self.assert_said("plain_report.py", (b"#\n", b""), 2, f"cannot read {self.folder}: Is a directory\n".encode(), b"")
+
+    def test_the_strict_checker(self) -> None:
+        good = b"c \xff\np cnf 0 1\n0\n"
+        for cnf, proof, reason in (
+            (good, b"", f"{self.folder}: Is a directory"), (good, b"\xff 0 1 0\n", "line 1 of the proof: not a line of numbers with one space between them"),
+            (good, f"{LONG} 0 1 0\n".encode(), "line 1 of the proof: a number of too many digits"),
+            (f"p cnf {LONG} 1\n".encode(), b"x", "line 1 of the CNF: a header that is too long"),
+        ):
+            self.assert_said("lrat_checker.py", (cnf, proof), 1, b"", f"refused: {reason}\n".encode())
+        self.assert_said("lrat_checker.py", (good, b"2 0 1 0\n"), 0, b"verified: 1 lines\n", b"")
+
+
 class LongNumberTest(FolderCase):
     """Python reads no number of more than 4,300 digits, and each is a fault at its line."""
 
