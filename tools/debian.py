@@ -112,8 +112,8 @@ class Universe:
         if name is None:
             record.fail("the stanza has no Package")
         if architecture not in self.architectures:
-            if name.endswith(b"\r"):
-                record.fail("a carriage return; lines end with a newline alone")
+            if name.endswith(b"\r") or record.raw.count(b"\nPackage:") + record.raw.startswith(b"Package:") != 1:
+                record.fields()  # finds the carriage return, or the stanza that another end of a line hides
             if architecture is None:
                 record.fail(f"the stanza of {name.decode('utf-8', 'replace')} has no Architecture")
             return

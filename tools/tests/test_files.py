@@ -242,6 +242,11 @@ class DamageTest(FolderCase):
             path = self.write(name, data)
             self.assert_fault(f"{path}: line 1: a carriage return; lines end with a newline alone", "debian", "--arch", "amd64", path)
 
+    def test_a_line_of_blanks_parts_no_stanzas(self) -> None:
+        for blanks in (" ", "\t"):
+            path = self.write("x", f"Package: a\nVersion: 1\nArchitecture: i386\n{blanks}\nPackage: b\nVersion: 1\nArchitecture: all\n\n")
+            self.assert_fault(f"{path}: line 5: the stanza has `Package` already", "debian", "--arch", "amd64", path)
+
 
 class NamesTest(FolderCase):
     """Names and words of strangers don't become lines of a catalogue, nor paths."""
