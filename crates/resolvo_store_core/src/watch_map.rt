@@ -517,6 +517,8 @@ impl WatchMapCursor {
         ensures place { self.new.place ≡ self.old.place }
         ensures at { IsAt map.new self.new }
         // After a refusal.
+        ensures err { OnErr result (SameLists (watchers map.old) (watchers map.new)) }
+        ensures err_clauses { OnErr result (clauses.new ≡ clauses.old) }
         ensures refusal { IsOkUnless result Memory }
     {
         self.relink(map, to)?;
