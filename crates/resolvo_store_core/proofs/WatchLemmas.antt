@@ -1,9 +1,10 @@
 -- Lemmas on the lists that the calls of a watch map write, as functions of a literal.
-use Rattle.std.proofs.Common.{◌≡◌, ℕ, zero, suc, ◌+◌, ◌<◌, ◌≤◌, inl, inr, true, false, cond, List, [], ◌∷◌, ◌++◌, take, drop, map, length, get_or, Option, Some, None, refl, sym, ◌∙◌, ap, subst, arith, eqb, eq-eqb, ne_eqb}
+use Rattle.std.proofs.Common.{◌≡◌, ℕ, zero, suc, ◌+◌, ◌*◌, ◌/◌, ◌<◌, ◌≤◌, inl, inr, true, false, cond, List, [], ◌∷◌, ◌++◌, take, drop, map, length, get_or, Option, Some, None, refl, sym, ◌∙◌, ap, subst, arith, eqb, eq-eqb, ne_eqb}
 use Rattle.std.specs.Prelude.{slice_get, slice_set}
 use Rattle.std.proofs.lemmas.List.{length-map}
 use Rattle.resolvo_pool_core.specs.declared.id.ClauseId.{ClauseId}
-use Rattle.resolvo_store_core.specs.Signed.{Signed, same_literal, index_in}
+use Rattle.resolvo_store_core.specs.Signed.{Signed, same_literal, index_in, literal_at}
+use Rattle.resolvo_store_core.specs.SignLaws.{index_round_trip}
 use Rattle.resolvo_store_core.specs.Pairs.{watches, moved_pair}
 use Rattle.resolvo_store_core.specs.declared.watched_literals.WatchedLiterals.{WatchedLiterals}
 use Rattle.resolvo_store_core.specs.declared.watch_map.WatchMap.{WatchMap}
@@ -11,7 +12,7 @@ use Rattle.resolvo_store_core.specs.declared.watch_map.WatchMapCursor.{WatchMapC
 use Rattle.resolvo_store_core.specs.Links.{link_of, named_at, clause_of, chain, list_in, before_in, watchers_in, AreLists, IsPlaced, IsUnlinked, KeepsLinks}
 use Rattle.resolvo_store_core.specs.Watches.{links, watchers, pair_at, IsFreeLink, IsAt, IsWatched, StartsIn, MovesIn, Moves, PutsFirst, TakesOut, SameLists}
 use Rattle.resolvo_store_core.proofs.LinkLemmas.{got, got_within, chain_length, added_lists, named_at-read, taken, up, up_in, not_up, put_in, put_from, taken_in, put_here, put_there, taken_here, taken_there, taken_was, taken_before, taken_behind, lists_are}
-use Rattle.resolvo_store_core.proofs.Watched.{differs_sym, both_false, index_differs, moved_well, pair_of_watcher, not_same_watch}
+use Rattle.resolvo_store_core.proofs.Watched.{differs_sym, both_false, index_differs, moved_well, pair_in_range, pair_of_watcher, not_same_watch}
 
 map_taken : {A : Type 0} (f : ℕ → A) (p : ℕ) (xs : List ℕ) → map f (taken p xs) ≡ take p (map f xs) ++ drop (suc p) (map f xs)
 map_taken f zero [] = refl
@@ -48,6 +49,18 @@ marked_free m n x within read is = record { in_range = within; free = free }
         let next : slice_get (list_in m.firsts.items m.nexts.items i) (suc a) ≡ Some 4294967294 = sym (m.linked.next i a n at) ∙ names in
         let low : 4294967294 < length m.nexts.items = m.linked.in_range i (suc a) 4294967294 next in
         let few : length m.nexts.items ≤ 4294967294 = m.few in
+        omega arith
+
+-- a link of a clause that isn't there yet is in no list
+pub free_past : (m : WatchMap) (pairs : List (Option WatchedLiterals)) (n : ℕ) → IsWatched pairs (watchers m) → length pairs * 2 ≤ n → n < length m.nexts.items → IsFreeLink m n
+free_past m pairs n fit past within = record { in_range = within; free = free }
+  where
+    free : (i a : ℕ) → slice_get (list_in m.firsts.items m.nexts.items i) a ≡ Some n → ⊥
+    free i a at =
+        let l : Signed = literal_at i in
+        let named : slice_get (links m l) a ≡ Some n = subst (λ (k : ℕ). slice_get (list_in m.firsts.items m.nexts.items k) a ≡ Some n) (sym (index_round_trip i)) at in
+        let found = pair_of_watcher pairs (watchers m) l a (clause_of n) fit (map_got clause_of (links m l) a n named) in
+        let low : n / 2 < length pairs = pair_in_range pairs (n / 2) found.0 found.1 in
         omega arith
 
 -- a free link behind the one that is put first stays free

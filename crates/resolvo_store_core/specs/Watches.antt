@@ -1,5 +1,5 @@
 -- The clauses that watch a literal.
-use Rattle.std.specs.Prelude.{◌≡◌, ℕ, suc, ◌+◌, ◌*◌, ◌<◌, ◌==◌, ⊤, Bool, true, false, not, nat_eq, List, [], ◌∷◌, ◌++◌, take, drop, slice_set, slice_get, slice_index_or, length, Option, Some, None}
+use Rattle.std.specs.Prelude.{◌≡◌, ℕ, suc, ◌+◌, ◌*◌, ◌<◌, ◌≤◌, ◌==◌, ⊤, Bool, true, false, not, nat_eq, List, [], ◌∷◌, ◌++◌, take, drop, slice_set, slice_get, slice_index_or, length, Option, Some, None}
 use Rattle.std.specs.List.{count_by}
 use Rattle.resolvo_pool_core.specs.declared.id.ClauseId.{ClauseId}
 use Rattle.resolvo_store_core.specs.Signed.{Signed, same_literal, index_in}
@@ -41,6 +41,16 @@ pub record IsReadyFor (m : WatchMap) (p : WatchedLiterals) (c : ClauseId) : Type
   pub second : HasPlace m p.second
   pub link : IsFreeLink m (c.0 * 2)
   pub beside : IsFreeLink m (c.0 * 2 + 1)
+
+-- as many lists and links are made as before
+pub record KeepsRoom (old new : WatchMap) : Type 0 where
+  pub lists : length new.firsts.items ≡ length old.firsts.items
+  pub links : length new.nexts.items ≡ length old.nexts.items
+
+-- the lists of the literals of so many variables are made, and the links of so many clauses
+pub record HasRoomFor (variables clauses : ℕ) (m : WatchMap) : Type 0 where
+  pub lists : variables * 2 ≤ length m.firsts.items
+  pub links : clauses * 2 ≤ length m.nexts.items
 
 -- all links are in the lists as before
 abbrev pub SameLinks : WatchMap → WatchMap → Type 0

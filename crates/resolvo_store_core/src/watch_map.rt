@@ -38,6 +38,9 @@ const MORE_LINKS: usize = 256;
 /// A map has no more links than this.
 const MOST_LINKS: usize = 4_294_967_294;
 
+/// So many clauses have links at most.
+const MOST_CLAUSES: usize = 2_147_483_647;
+
 /// A place in the list of a literal's clauses: the link there, and the one before it.
 #[derive(Clone, Copy, Debug)]
 pub struct WatchMapCursor {
@@ -54,7 +57,7 @@ impl WatchMap {
     ghost use Rattle.resolvo_store_core.specs.Signed.{Signed, same_literal};
     ghost use Rattle.resolvo_store_core.specs.declared.watched_literals.WatchedLiterals.{WatchedLiterals};
     ghost use Rattle.resolvo_store_core.specs.Links.{clause_of, IsPlaced};
-    ghost use Rattle.resolvo_store_core.specs.Watches.{HasPlace, HasRoom, IsReadyFor, links, watchers, watched_count, IsFreeLink, IsAt, IsWatched, StartsIn, PutsFirst, TakesOut, SameLists, SameLinks};
+    ghost use Rattle.resolvo_store_core.specs.Watches.{HasPlace, HasRoom, IsReadyFor, links, watchers, watched_count, IsFreeLink, KeepsRoom, HasRoomFor, IsAt, IsWatched, StartsIn, PutsFirst, TakesOut, SameLists, SameLinks};
     ghost use Rattle.resolvo_store_core.specs.Walk.{pairs_after, lists_after, first_target};
 
     /// A map in which no clause watches a literal.
@@ -114,12 +117,14 @@ impl WatchMap {
         self.is_unlinked(link) && self.is_unlinked(link + 1)
     }
 
-    /// Puts a clause at the front of the lists of its two literals, where all of this is there.
+    /// Lets a new clause watch two different literals, where their lists and its links are made. It is
+    /// put at the front of both lists.
     #[inline(always)]
-    fn start_ready(&mut self, watched: WatchedLiterals, clause: ClauseId)
+    pub fn start_ready(&mut self, watched: WatchedLiterals, clause: ClauseId)
         requires differ { same_literal watched.first watched.second ≡ false }
         requires ready { IsReadyFor self.old watched clause }
-        ensures { StartsIn clause watched (watchers self.old) (watchers self.new) }
+        ensures started { StartsIn clause watched (watchers self.old) (watchers self.new) }
+        ensures room { KeepsRoom self.old self.new }
     {
         let link = clause.0 * 2;
         self.link_first(watched.first, link);
@@ -249,6 +254,24 @@ impl WatchMap {
         Ok(())
     }
 
+    /// Makes the lists of the literals of so many variables, and the links of so many clauses and
+    /// some more. So these can begin to watch without a refusal.
+    pub fn reserve_clauses(&mut self, variables: usize, clauses: usize, more: usize) -> R<()>
+        requires { variables ≤ 2147483648 }
+        ensures same { SameLists (watchers self.old) (watchers self.new) }
+        ensures room { OnOk result (HasRoomFor variables (clauses + more) self.new) }
+        ensures refusal { IsOkUnless result Memory }
+    {
+        if clauses > MOST_CLAUSES {
+            return Err(Want::Memory);
+        }
+        if more > MOST_CLAUSES - clauses {
+            return Err(Want::Memory);
+        }
+        self.reserve_links((clauses + more) * 2)?;
+        self.reserve_lists(variables * 2)
+    }
+
     /// Reserves a list for a literal, to which clauses can then move without a refusal.
     fn reserve(&mut self, literal: Literal) -> R<()>
         ensures same { SameLists (watchers self.old) (watchers self.new) }
@@ -258,7 +281,18 @@ impl WatchMap {
         ensures succeeds { HasPlace self.old literal → IsOk result }
         ensures refusal { IsOkUnless result Memory }
     {
-        let count = literal.to_index() + 1;
+        self.reserve_lists(literal.to_index() + 1)
+    }
+
+    /// Makes so many lists. Those that are added are empty.
+    fn reserve_lists(&mut self, count: usize) -> R<()>
+        ensures same { SameLists (watchers self.old) (watchers self.new) }
+        ensures links { SameLinks self.old self.new }
+        ensures there { OnOk result (count ≤ length self.new.firsts.items) }
+        ensures longer { length self.old.firsts.items ≤ length self.new.firsts.items }
+        ensures succeeds { count ≤ length self.old.firsts.items → IsOk result }
+        ensures refusal { IsOkUnless result Memory }
+    {
         while self.firsts.len() < count {
             self.firsts.push(0)?;
         }
@@ -341,6 +375,7 @@ impl WatchMap {
             → links self.new l ≡ links self.old l }
         ensures later { (n : ℕ) → link < n → IsFreeLink self.old n → IsFreeLink self.new n }
         ensures room { (l : Signed) → HasPlace self.old l → HasPlace self.new l }
+        ensures same_room { KeepsRoom self.old self.new }
     {
         let index = literal.to_index();
         self.nexts[link as usize] = self.firsts[index];

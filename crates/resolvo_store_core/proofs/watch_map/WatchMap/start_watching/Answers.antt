@@ -10,7 +10,7 @@ on_ok (Err e) f p = p
 
 pub returns-then-is_ready-clause-fits : goal.returns-then-is_ready-clause-fits
 returns-then-is_ready-clause-fits c = λ pairs fit number.
-    started_well pairs (watchers c.args.self.now) (watchers c.start_ready.new.self) c.args.clause c.args.watched number fit c.requires c.start_ready.ensures
+    started_well pairs (watchers c.args.self.now) (watchers c.start_ready.new.self) c.args.clause c.args.watched number fit c.requires c.start_ready.ensures.started
 
 pub returns-clause-fits : goal.returns-clause-fits
 returns-clause-fits c =

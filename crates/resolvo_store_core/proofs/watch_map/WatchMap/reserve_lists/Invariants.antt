@@ -1,6 +1,6 @@
 use Rattle.std.proofs.Common.{◌≡◌, ◌≤◌, ℕ, ◌-◌, length}
 use Rattle.resolvo_store_core.specs.Links.{named_at}
-use Rattle.resolvo_store_core.proofs.watch_map.WatchMap.reserve.Given as goal
+use Rattle.resolvo_store_core.proofs.watch_map.WatchMap.reserve_lists.Given as goal
 
 -- the lists that were added are empty
 abbrev pub invariant-loop-self : goal.invariant-loop-self
