@@ -61,8 +61,3 @@ pub some_within : (xs : List ClauseId) (place : ℕ) → place < length xs → s
 some_within xs place h e =
     let both : Some (clause_within xs place h).0 ≡ None = sym (clause_within xs place h).1 ∙ e in
     cc
-
-pub get_past : (xs : List ClauseId) (place : ℕ) → length xs ≤ place → slice_get xs place ≡ None
-get_past [] place h = refl
-get_past (y ∷ xs) zero h = absurd (omega arith)
-get_past (y ∷ xs) (suc place) h = get_past xs place (omega arith)

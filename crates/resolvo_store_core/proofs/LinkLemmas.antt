@@ -135,11 +135,6 @@ named_at-read [] i o h e = absurd (omega arith)
 named_at-read (f ∷ fs) zero o h e = ap link_of (sym e)
 named_at-read (f ∷ fs) (suc i) o h e = named_at-read fs i o (omega arith) e
 
-pub named_at-past : (fs : List ℕ) (i : ℕ) → length fs ≤ i → named_at fs i ≡ None
-named_at-past [] i h = refl
-named_at-past (f ∷ fs) zero h = absurd (omega arith)
-named_at-past (f ∷ fs) (suc i) h = named_at-past fs i (omega arith)
-
 pub first_within : (fs : List ℕ) (i n : ℕ) → named_at fs i ≡ Some n → i < length fs
 first_within [] i n e = cc
 first_within (f ∷ fs) zero n e = omega arith

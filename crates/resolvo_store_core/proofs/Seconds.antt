@@ -1,11 +1,10 @@
 -- Lemmas on the literals that a new clause watches.
-use Rattle.std.proofs.Common.{◌≡◌, ℕ, zero, suc, ◌-◌, ◌<◌, ◌≤◌, Bool, true, false, ◌||◌, List, [], ◌∷◌, ◌++◌, length, get_or, Option, Some, None, All, sym, ◌∙◌, ap, subst, arith}
-use Rattle.std.specs.Prelude.{slice_get}
+use Rattle.std.proofs.Common.{◌≡◌, ◌-◌, Bool, true, false, ◌||◌, List, [], ◌∷◌, ◌++◌, Option, Some, None, All, sym, ◌∙◌, subst}
 use Rattle.std.proofs.lemmas.Bool.{or_left, or_right}
 use Rattle.std.proofs.lemmas.List.Elements.{All-push, All-weaker, All-contains, Contains-push, Contains-append_left}
 use Rattle.resolvo_store_core.specs.Signed.{Signed, same_literal, is_false}
 use Rattle.resolvo_store_core.specs.SignLaws.{same_literal_true}
-use Rattle.resolvo_store_core.specs.Watchable.{CanWatch, IsSecond, IsSecondSoFar, AreEnds}
+use Rattle.resolvo_store_core.specs.Watchable.{CanWatch, IsSecond, IsSecondSoFar}
 use Rattle.resolvo_store_core.proofs.Watched.{differs_sym}
 
 all_so_far : (value : Signed → Option Bool) (first : Signed) (xs : List Signed) (o : Option Signed) → IsSecondSoFar value first xs o → All (λ m. (same_literal m first || is_false (value m)) ≡ true) xs
@@ -32,8 +31,3 @@ second_found value first xs ys (Some l) h e =
 pub all_one : (first : Signed) (xs : List Signed) → All (λ m. same_literal m first ≡ true) xs → CanWatch xs None
 all_one first xs h l m a b =
     same_literal_true l first (All-contains (λ x. same_literal x first ≡ true) xs l h a) ∙ sym (same_literal_true m first (All-contains (λ x. same_literal x first ≡ true) xs m h b))
-
-pub get_at : (xs : List Signed) (i : ℕ) (x : Signed) → i < length xs → x ≡ get_or xs i x → slice_get xs i ≡ Some x
-get_at [] i x h e = absurd (omega arith)
-get_at (y ∷ xs) zero x h e = ap (λ (z : Signed). Some z) (sym e)
-get_at (y ∷ xs) (suc i) x h e = get_at xs i x (omega arith) e

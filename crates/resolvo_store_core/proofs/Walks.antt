@@ -1,5 +1,5 @@
 -- Lemmas on walks.
-use Rattle.std.proofs.Common.{Result, Ok, OnOk, length-append, ◌≡◌, ◌≤◌, ◌⊎◌, inl, inr, eqb, eq-eqb, ℕ, zero, suc, ◌+◌, ◌<◌, true, false, cond, List, [], ◌∷◌, ◌++◌, take, drop, length, Option, Some, None, refl, sym, ◌∙◌, ap, subst, arith}
+use Rattle.std.proofs.Common.{Result, Ok, OnOk, ◌≡◌, ◌≤◌, ◌⊎◌, inl, inr, eqb, eq-eqb, ℕ, zero, suc, ◌+◌, ◌<◌, true, false, cond, List, [], ◌∷◌, ◌++◌, take, drop, length, Option, Some, None, refl, sym, ◌∙◌, ap, subst, arith}
 use Rattle.std.specs.Prelude.{slice_get, slice_set}
 use Rattle.std.proofs.lemmas.Bool.{cases_Bool}
 use Rattle.std.proofs.lemmas.List.{append_assoc, append-nil, set-get_or}
@@ -7,7 +7,7 @@ use Rattle.resolvo_pool_core.specs.declared.id.ClauseId.{ClauseId}
 use Rattle.resolvo_store_core.specs.Signed.{Signed, same_literal}
 use Rattle.resolvo_store_core.specs.Pairs.{watches, moved_pair}
 use Rattle.resolvo_store_core.specs.declared.watched_literals.WatchedLiterals.{WatchedLiterals}
-use Rattle.resolvo_store_core.specs.Watches.{pair_at, count, one_if, IsWatched, Moves, MovesIn, SameLists}
+use Rattle.resolvo_store_core.specs.Watches.{pair_at, count, one_if, Moves, MovesIn, SameLists}
 use Rattle.resolvo_store_core.specs.Walk.{IsWalking, pairs_after, lists_after, moved_view, without, new_watch, first_target, with_watch}
 use Rattle.resolvo_store_core.specs.SignLaws.{same_literal-self}
 use Rattle.resolvo_store_core.proofs.Watched.{cases_literal, pair_of_watcher}

@@ -10,9 +10,9 @@ use Rattle.resolvo_store_core.specs.declared.watched_literals.WatchedLiterals.{W
 use Rattle.resolvo_store_core.specs.declared.watch_map.WatchMap.{WatchMap}
 use Rattle.resolvo_store_core.specs.declared.watch_map.WatchMapCursor.{WatchMapCursor}
 use Rattle.resolvo_store_core.specs.Links.{link_of, named_at, clause_of, chain, list_in, before_in, watchers_in, AreLists, IsPlaced, IsUnlinked, KeepsLinks}
-use Rattle.resolvo_store_core.specs.Watches.{links, watchers, pair_at, IsFreeLink, IsAt, IsWatched, StartsIn, MovesIn, Moves, PutsFirst, TakesOut, SameLists}
+use Rattle.resolvo_store_core.specs.Watches.{links, watchers, pair_at, IsFreeLink, IsAt, IsWatched, MovesIn, Moves, PutsFirst, TakesOut, SameLists}
 use Rattle.resolvo_store_core.proofs.LinkLemmas.{got, got_within, chain_length, added_lists, named_at-read, taken, up, up_in, not_up, put_in, put_from, taken_in, put_here, put_there, taken_here, taken_there, taken_was, taken_before, taken_behind, lists_are}
-use Rattle.resolvo_store_core.proofs.Watched.{differs_sym, both_false, index_differs, moved_well, pair_in_range, pair_of_watcher, not_same_watch}
+use Rattle.resolvo_store_core.proofs.Watched.{differs_sym, index_differs, moved_well, pair_in_range, pair_of_watcher, not_same_watch}
 
 map_taken : {A : Type 0} (f : ℕ → A) (p : ℕ) (xs : List ℕ) → map f (taken p xs) ≡ take p (map f xs) ++ drop (suc p) (map f xs)
 map_taken f zero [] = refl

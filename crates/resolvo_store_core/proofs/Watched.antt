@@ -1,5 +1,5 @@
 -- Lemmas on the watched literals of clauses.
-use Rattle.std.proofs.Common.{◌≡◌, ℕ, zero, suc, ◌+◌, ◌<◌, ◌≤◌, ◌⊎◌, inl, inr, Bool, true, false, ◌||◌, List, [], ◌∷◌, ◌++◌, take, drop, length, get_or, set, cond, Option, Some, None, refl, sym, ◌∙◌, ap, subst, arith, eqb}
+use Rattle.std.proofs.Common.{◌≡◌, ℕ, zero, suc, ◌+◌, ◌<◌, ◌≤◌, ◌⊎◌, inl, inr, Bool, true, false, ◌||◌, List, [], ◌∷◌, ◌++◌, take, drop, length, set, cond, Option, Some, None, refl, sym, ◌∙◌, ap, subst, arith, eqb}
 use Rattle.std.specs.Prelude.{slice_get}
 use Rattle.std.proofs.lemmas.Bool.{both_ways, or_cases, or_left, or_right, cases_Bool}
 use Rattle.std.proofs.lemmas.Bool.Decides.{eqb_tells}
@@ -45,11 +45,6 @@ pair_at-set_other (p ∷ ps) zero zero x h = absurd (h refl)
 pair_at-set_other (p ∷ ps) zero (suc d) x h = refl
 pair_at-set_other (p ∷ ps) (suc c) zero x h = refl
 pair_at-set_other (p ∷ ps) (suc c) (suc d) x h = pair_at-set_other ps c d x (λ e. h (ap suc e))
-
-pub pair_at-read : (ps : List (Option WatchedLiterals)) (c : ℕ) (x : Option WatchedLiterals) → c < length ps → x ≡ get_or ps c x → pair_at ps c ≡ x
-pair_at-read [] c x h e = absurd (omega arith)
-pair_at-read (p ∷ ps) zero x h e = sym e
-pair_at-read (p ∷ ps) (suc c) x h e = pair_at-read ps c x (omega arith) e
 
 pub pair_in_range : (ps : List (Option WatchedLiterals)) (c : ℕ) (p : WatchedLiterals) → pair_at ps c ≡ Some p → c < length ps
 pair_in_range [] c p e = cc
