@@ -17,7 +17,7 @@ use resolvo_report::Step;
 use std::alloc::Global;
 
 /// A wish of a request, and the step that forbids it without a search, if there is one.
-#[derive(Debug, Drop)]
+#[derive(Drop)]
 pub struct Wish {
     pub line: u32,
     pub version: VersionNo,

@@ -26,7 +26,7 @@ use std::alloc::{AllocError, Global};
 use std::collections::BTreeMap;
 
 /// What a line gives, by what is chosen and what is an entry.
-#[derive(Clone, Copy, Debug)]
+#[derive(Clone, Copy)]
 pub enum LineState {
     /// Nothing: each chosen version that it matches is an entry.
     Spent,

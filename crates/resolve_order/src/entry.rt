@@ -4,7 +4,7 @@
 use resolvo_catalogue_core::VersionNo;
 
 /// Why a version is listed.
-#[derive(Clone, Copy, Debug)]
+#[derive(Clone, Copy)]
 pub enum Reason {
     /// A need in a line of the request.
     ForRequest { line: u32 },
@@ -15,7 +15,7 @@ pub enum Reason {
 }
 
 /// A version that is listed, and why.
-#[derive(Clone, Copy, Debug)]
+#[derive(Clone, Copy)]
 pub struct Entry {
     pub version: VersionNo,
     pub reason: Reason,
@@ -23,7 +23,7 @@ pub struct Entry {
 
 /// A line of the report: an entry, or a wish of this line of the request that is left out, since
 /// the step forbids it.
-#[derive(Clone, Copy, Debug)]
+#[derive(Clone, Copy)]
 pub enum Answer {
     Entry(Entry),
     LeftOut {
@@ -34,7 +34,7 @@ pub enum Answer {
 }
 
 /// A turn of a search. A wish is named by its line of the request.
-#[derive(Clone, Copy, Debug)]
+#[derive(Clone, Copy)]
 pub enum Turn<'a> {
     /// The needs of the request, or an accepted wish: the versions that were chosen besides those
     /// of the turns before.

@@ -22,7 +22,7 @@ use resolvo_terms::Terms;
 
 /// The package and the span of a SPEC. The package is known by the number of its first version, if
 /// one is listed.
-#[derive(Clone, Copy, Debug)]
+#[derive(Clone, Copy)]
 pub struct PackageSpan {
     pub package: Option<u32>,
     pub span: Span,

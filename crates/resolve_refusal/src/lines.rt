@@ -30,21 +30,21 @@ pub(crate) struct Texts<'a> {
 }
 
 /// A line `needs`, and one of the cases of its condition, from 1.
-#[derive(Clone, Copy, Debug)]
+#[derive(Clone, Copy)]
 pub(crate) struct NeedLine {
     pub line: u32,
     pub case: u32,
 }
 
 /// A line that forbids a version before a search.
-#[derive(Clone, Copy, Debug)]
+#[derive(Clone, Copy)]
 pub(crate) enum ForbidLine {
     Lock(u32),
     Exclude(u32),
 }
 
 /// A line that forbids a version with a word.
-#[derive(Clone, Copy, Debug)]
+#[derive(Clone, Copy)]
 pub(crate) enum WordLine {
     Exclude(u32),
     Unknown(u32),

@@ -11,7 +11,7 @@ use resolvo_report::{Place, Step};
 use std::alloc::Global;
 
 /// One of the two texts.
-#[derive(Clone, Copy, Debug, PartialEq, Eq)]
+#[derive(Clone, Copy)]
 pub(crate) enum Text {
     Catalogue,
     Request,

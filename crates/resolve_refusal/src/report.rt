@@ -24,7 +24,7 @@ use resolvo_report::{Report, Step};
 use std::alloc::Global;
 
 /// A refused report without its message.
-#[derive(Debug, Drop)]
+#[derive(Drop)]
 pub struct Refusal {
     /// The lines of each text on which the steps rest.
     catalogue: Vec<u32>,

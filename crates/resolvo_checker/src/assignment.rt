@@ -9,14 +9,14 @@ ghost use Rattle.resolvo_checker.specs.Truth.{known_in};
 use std::alloc::{AllocError, Global};
 
 /// A value, if one was set, and the pass that set it.
-#[derive(Clone, Copy, Debug)]
+#[derive(Clone, Copy)]
 pub struct Mark {
     pub pass: u32,
     pub value: Option<bool>,
 }
 
 /// The values that the present pass has assigned.
-#[derive(Debug, Drop)]
+#[derive(Drop)]
 pub struct Assignment {
     pub marks: Vec<Mark>,
     pub pass: u32,

@@ -3,7 +3,7 @@
 use resolvo_catalogue_core::{Spec, VersionNo};
 
 /// The atom of a literal.
-#[derive(Debug, Drop)]
+#[derive(Drop)]
 pub enum Atom {
     Version(VersionNo),
     Any(String),
@@ -14,7 +14,7 @@ pub enum Atom {
 }
 
 /// An atom, or its negation.
-#[derive(Debug, Drop)]
+#[derive(Drop)]
 pub struct Built {
     pub atom: Atom,
     pub positive: bool,

@@ -10,7 +10,7 @@ use resolvo_report::{Place, Step};
 use std::alloc::{AllocError, Global};
 
 /// Where the literals of a clause begin and end, or which of the long clauses it is.
-#[derive(Clone, Copy, Debug)]
+#[derive(Clone, Copy)]
 pub enum Kept {
     Ready(usize, usize),
     Long(usize),

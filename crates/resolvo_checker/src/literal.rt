@@ -1,14 +1,14 @@
 //! The literals of clauses, over numbered atoms.
 
 /// The atom of this number, or its negation.
-#[derive(Clone, Copy, Debug, PartialEq, Eq, Drop)]
+#[derive(Clone, Copy, Drop)]
 pub struct Literal {
     pub atom: usize,
     pub positive: bool,
 }
 
 /// What a clause is under an assignment.
-#[derive(Clone, Copy, Debug, PartialEq, Eq, Drop)]
+#[derive(Clone, Copy, Drop)]
 pub enum ClauseStatus {
     /// All its literals are false.
     Falsified,

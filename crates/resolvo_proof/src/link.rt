@@ -9,7 +9,6 @@ use resolvo_pool_core::requirement::Requirement;
 use std::alloc::AllocError;
 
 /// An edge, by its ends. A parent is a solvable, or none for the root.
-#[derive(Debug)]
 pub enum Link<S> {
     /// The solvable is excluded for this reason.
     Excluded {

@@ -17,7 +17,7 @@ use std::fmt::Debug;
 use std::hash::Hash;
 
 /// Steps of which some were left out.
-#[derive(Debug, Drop)]
+#[derive(Drop)]
 pub struct Trimmed<N, S> {
     pub steps: Vec<ProofStep<N, S>>,
     /// For each step's old place, how many kept steps precede it.
