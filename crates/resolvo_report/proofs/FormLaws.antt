@@ -105,9 +105,6 @@ pub record Kind {X Y : Type 0} (read : Words → Option Y) (make : X → Y) (spe
 abbrev pub Anything : Words → Type 0
 Anything words = ⊤
 
-pair_is : {A B : Type 0} {a x : A} {b y : B} → a ≡ x → b ≡ y → ◌≡◌ {A = A × B} (a, b) (x, y)
-pair_is {A} {B} {a} {x} {b} {y} e f = ap (λ (z : A). (z, b)) e ∙ ap (λ (z : B). (x, z)) f
-
 pub pair_law : {A B : Type 0} {ra : Reader A} {rb : Reader B} {sa : A → Words} {sb : B → Words} {Fa : A → Type 0} {Fb : B → Type 0} {Ea Eb : Words → Type 0}
     → Law ra sa Fa Ea → Law rb sb Fb Eb → ((y : B) (rest : Words) → Fb y → Eb rest → Ea (sb y ++ rest)) → Law (pair_at ra rb) (λ x. sa x.0 ++ sb x.1) (λ x. Fa x.0 × Fb x.1) Eb
 pair_law {A} {B} {ra} {rb} {sa} {sb} {Fa} {Fb} {Ea} {Eb} a b fit = record {
@@ -275,10 +272,6 @@ version_again v rest fits = rw (version_in_again v fits) refl
 
 pub version_law : Law version_at (λ v. version_text v ∷ []) IsVersion Anything
 version_law = record { takes = version_takes; again = λ v rest fits ends. version_again v rest fits; plain = λ v fits. (version_is_plain v fits, tt) }
-
--- A version is no keyword.
-keyword_has_none : (k : List ℕ) (n : ℕ) → position is_equals k ≡ None → k ≡ version_text (record { name = k; number = n }) → ⊥
-keyword_has_none k n none e = absurd (omega (arith, ap (λ (xs : List ℕ). length xs) e, length-append (k ++ codes "=") (decimal n), length-append k (codes "=")))
 
 no_version : (k : List ℕ) (v : Version) → IsVersion v → version_in k ≡ None → bytes_eq (version_text v) k ≡ false
 no_version k v fits none = by_test (bytes_eq (version_text v) k) refl

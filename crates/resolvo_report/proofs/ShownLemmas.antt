@@ -1,24 +1,15 @@
 -- Lines as they are shown, and where they are allowed.
-use Rattle.std.proofs.Common.{◌≡◌, ℕ, Bool, true, false, List, [], Option, Some, None, Result, Ok, Err, refl, sym, ap, subst, ◌∙◌, inl, inr, ⊎_elim, drop}
+use Rattle.std.proofs.Common.{◌≡◌, ℕ, Bool, true, false, List, [], Option, Some, None, refl, sym, ap, subst, ◌∙◌, inr, ⊎_elim, drop}
 use Rattle.std.specs.Prelude.{if◌then◌else◌, is_some}
 use Rattle.std.specs.Option.{option_map}
 use Rattle.std.proofs.lemmas.Bool.{false≢true}
-use Rattle.resolvo_text.specs.declared.line.LineFault.{LineFault}
-use Rattle.resolvo_text.specs.Parse.{Gives}
 use Rattle.resolvo_report.specs.declared.report.ReportLine as code
 use Rattle.resolvo_report.specs.declared.place.Part.{Part}
 use Rattle.resolvo_report.specs.declared.place.Part.TheVariants as part
 use Rattle.resolvo_report.specs.Value.{ReportLine, Message}
-use Rattle.resolvo_report.specs.View.{report_line_of}
 use Rattle.resolvo_report.specs.Grammar.{next_part}
 use Rattle.resolvo_report.specs.Parse.{is_message, line_read}
-use Rattle.resolvo_report.specs.Shown.{IsShown, Shows}
-
--- a line that was read is shown as it is
-pub shows_read : (keeps : Bool) (r : Result code.ReportLine LineFault) (read : Option ReportLine) → Gives report_line_of r read → Shows keeps r read
-shows_read true (Ok line) read h = (report_line_of line, h, refl)
-shows_read false (Ok line) read h = (report_line_of line, h, inl refl)
-shows_read keeps (Err e) read h = h
+use Rattle.resolvo_report.specs.Shown.{IsShown}
 
 same_part : (p : Part) (bytes other : List ℕ) → next_part p (Message bytes) ≡ next_part p (Message other)
 same_part part.Start bytes other = refl

@@ -21,7 +21,7 @@ use Rattle.resolvo_text.proofs.AlternativeLemmas.{bind_some}
 use Rattle.resolvo_text.proofs.PartLaws.{word_takes, skip_takes, skip_is, no_skip, chosen, BeginsNot}
 use Rattle.resolvo_report.specs.Value.{Atom, Chosen, AnyOf, SharedBy, OutsideOf, MatchesOf, BitOf, Literal, Step, Derive}
 use Rattle.resolvo_report.specs.Text.{version_text, atom_words, atom_text, signed, literal_words, literal_text, clause_text, IsBit, AreAlternatives, IsAtom, are_rising, are_once, AreLiterals, AreNumbers}
-use Rattle.resolvo_report.specs.Parse.{pair_at, behind, behind_at, whole, version_in, bit_at, specs_at, atom_by, atom_in, literal_in, literal_behind, literals_behind, text_behind, atom_part, are_in_order, is_semicolon, pieces_in, literals_in, numbers_in, some_of, causes_in, causes_behind, is_close, derived_in}
+use Rattle.resolvo_report.specs.Parse.{pair_at, behind, behind_at, whole, version_in, bit_at, specs_at, any_atom_in, shared_atom_in, outside_atom_in, matches_atom_in, bit_atom_in, atom_by, atom_in, literal_in, literal_behind, literals_behind, text_behind, atom_part, are_in_order, is_semicolon, pieces_in, literals_in, numbers_in, some_of, causes_in, causes_behind, is_close, derived_in}
 use Rattle.resolvo_report.proofs.TextLemmas.{join_spaced}
 use Rattle.resolvo_report.proofs.FormLaws.{is_plain, Plain, ArePlain, number_is_plain, version_is_plain, Kind, pair_law, behind_law, whole_kind, bit_law, name_law, spec_law, specs_law, version_in_takes, version_in_again, behind_again}
 
@@ -77,7 +77,7 @@ at_end [] u e = refl
 at_end (w ∷ ws) u e = absurd cc
 
 atom_by_takes : (k : List ℕ) (words : Words) (a : Atom) → atom_by k words ≡ Some a → AtomBy k words a
-unfolding atom_by
+unfolding atom_by any_atom_in shared_atom_in outside_atom_in matches_atom_in bit_atom_in
 atom_by_takes k words a e =
     elim (chosen (bytes_eq k (codes "any")) _ _ _ e) [
       | inl h ↦ of_kind any_atom (codes "any") k words a (λ x fits. (refl, fits)) (is_keyword k (codes "any") h.0) h.1
@@ -144,7 +144,7 @@ rest_of [] = []
 rest_of (w ∷ ws) = ws
 
 atom_by_again : (a : Atom) → IsAtom a → atom_by (first_of (atom_words a)) (rest_of (atom_words a)) ≡ Some a
-unfolding atom_by
+unfolding atom_by any_atom_in shared_atom_in outside_atom_in matches_atom_in bit_atom_in
 atom_by_again (Chosen v) fits = rw (no_keyword (codes "any") v fits no_version_any, no_keyword (codes "shared") v fits no_version_shared, no_keyword (codes "outside") v fits no_version_outside, no_keyword (codes "matches") v fits no_version_matches, no_keyword (codes "bit") v fits no_version_bit, version_in_again v fits) refl
 atom_by_again (AnyOf name) fits = any_atom.again name fits
 atom_by_again (SharedBy ss) fits = shared_atom.again ss fits
@@ -297,9 +297,6 @@ atom_is_no_not (SharedBy ss) fits = rw (join_spaced (codes "shared") (alternativ
 atom_is_no_not (OutsideOf s) fits = refl
 atom_is_no_not (MatchesOf s) fits = refl
 atom_is_no_not (BitOf bit name) fits = refl
-
-not_joined : (ws : Words) (w : List ℕ) → join_with_byte 32 (codes "not" ∷ (w ∷ ws)) ≡ codes "not " ++ join_with_byte 32 (w ∷ ws)
-not_joined ws w = refl
 
 part_by_sign : (positive : Bool) (a : Atom) → IsAtom a → atom_part (join_with_byte 32 (signed positive (atom_words a))) ≡ atom_text a
 part_by_sign true a fits = rw (atom_is_no_not a fits) refl

@@ -1,6 +1,6 @@
 -- Where a text doesn't go on with a line of a report, and the invariant after some lines.
-use Rattle.std.proofs.Common.{◌≡◌, ℕ, ◌+◌, ◌<◌, Bool, true, false, List, [], ◌∷◌, ◌++◌, length, take, drop, take-append-drop, length-drop, Option, Some, None, refl, sym, ap, subst, ◌∙◌, append_assoc, append-nil, length-append, arith, ⊎_elim}
-use Rattle.std.specs.Prelude.{codes, IsTrue}
+use Rattle.std.proofs.Common.{◌≡◌, ℕ, ◌+◌, Bool, true, false, List, [], ◌∷◌, ◌++◌, length, take, drop, take-append-drop, length-drop, Option, Some, None, refl, sym, ap, subst, ◌∙◌, append_assoc, append-nil, length-append, arith, ⊎_elim}
+use Rattle.std.specs.Prelude.{codes}
 use Rattle.std.specs.Io.KnownBytes.{Consumes, IsAtEnd, prepend_known}
 use Rattle.std.specs.List.{AllByRecursion}
 use Rattle.std.specs.Option.{option_and_then}
@@ -20,7 +20,7 @@ use Rattle.resolvo_report.specs.declared.reader.ReportFault.{ReportFault}
 use Rattle.resolvo_report.specs.declared.reader.ReportFault.TheVariants.{NotAReport, Reader, TooLong, Memory}
 use Rattle.resolvo_report.specs.Value.{ReportLine}
 use Rattle.resolvo_report.specs.Text.{line_text, lines_text, HasText}
-use Rattle.resolvo_report.specs.Grammar.{next_part, part_after, may_end, AreLines, GoesOn, most_bytes, IsReportFault}
+use Rattle.resolvo_report.specs.Grammar.{next_part, part_after, AreLines, GoesOn, most_bytes, IsReportFault}
 use Rattle.resolvo_report.specs.Parse.{line_read}
 use Rattle.resolvo_report.proofs.LineLaws.{line_takes}
 use Rattle.resolvo_report.proofs.WholeLines.{line_has_no_newline, line_again}
@@ -35,9 +35,6 @@ has_newline rest e = omega (arith, one_newline rest, e)
 
 same_head : (b c : ℕ) (xs ys : List ℕ) → ◌≡◌ {A = List ℕ} (b ∷ xs) (c ∷ ys) → (b ≡ c) × (xs ≡ ys)
 same_head b c xs ys e = (cc, cc)
-
-no_head : (b : ℕ) (xs : List ℕ) → ◌≡◌ {A = List ℕ} [] (b ∷ xs) → ⊥
-no_head b xs e = cc
 
 -- the text before the first newline, and the rest
 pub first_newline : (xs ys r t : List ℕ) → newlines xs ≡ 0 → newlines ys ≡ 0 → xs ++ 10 ∷ r ≡ ys ++ 10 ∷ t → (xs ≡ ys) × (r ≡ t)
@@ -56,19 +53,10 @@ first_newline (x ∷ xs) (y ∷ ys) r t p q e =
 newline_behind : (text rest : List ℕ) → (text ++ codes "\n") ++ rest ≡ text ++ 10 ∷ rest
 newline_behind text rest = append_assoc text (codes "\n") rest
 
-some_newline : (text rest : List ℕ) → newlines (text ++ 10 ∷ rest) ≡ 0 → ⊥
-some_newline text rest e = omega (arith, newlines-append text (10 ∷ rest), one_newline rest, e)
-
 -- ---- where a text doesn't go on
 
 none_some : {A : Type 0} (x : A) → ◌≡◌ {A = Option A} None (Some x) → ⊥
 none_some x e = cc
-
--- no newline is left, and some byte is, or the report may not end
-pub stops_unfinished : (p : Part) (bytes : List ℕ) → newlines bytes ≡ 0 → (bytes ≡ [] → IsTrue (may_end p) → ⊥) → GoesOn p bytes → ⊥
-stops_unfinished p bytes none end goes = ⊎_elim
-    (λ h. some_newline (line_text h.0) h.1 (subst (λ (bs : List ℕ). newlines bs ≡ 0) (h.5 ∙ newline_behind (line_text h.0) h.1) none))
-    (λ h. end h.0 h.1) goes
 
 -- the next line is no line of a report
 pub stops_unread : (p : Part) (bytes text rest : List ℕ) → bytes ≡ text ++ 10 ∷ rest → newlines text ≡ 0 → line_read text ≡ None → GoesOn p bytes → ⊥
@@ -94,21 +82,6 @@ stops_misplaced p bytes text rest l is none read misplaced goes = ⊎_elim
     some_byte text rest e = omega (arith, ap (λ (xs : List ℕ). length xs) e, length-append text (10 ∷ rest))
 
 -- ---- the line that `next_line` took
-
-pub at_end_stops : (p : Part) (before : Option (List ℕ)) → IsAtEnd before → may_end p ≡ false → IfKnown before (λ bytes. GoesOn p bytes → ⊥)
-at_end_stops p before end closed = λ bytes e goes.
-    let over : bytes ≡ [] = subst IsAtEnd e end in
-    stops_unfinished p bytes (ap newlines over) (λ _ may. absurd (true_false (sym may ∙ closed))) goes
-  where
-    true_false : true ≡ false → ⊥
-    true_false e = cc
-
-pub unfinished_stops : (p : Part) (before after : Option (List ℕ)) (line : List ℕ) (whole : Bool) (room room_after : ℕ) → whole ≡ false → EndsLine whole before room line after room_after → room_after < room → IfKnown before (λ bytes. GoesOn p bytes → ⊥)
-unfinished_stops p before after line true room room_after is ends less = absurd cc
-unfinished_stops p before after line false room room_after is ends less = λ bytes e goes.
-    let all : bytes ≡ line = ends.1 bytes e in
-    let some : 0 < length line = omega (arith, ends.3, less) in
-    stops_unfinished p bytes (ap newlines all ∙ ends.2) (λ none _. omega (arith, some, ap (λ (xs : List ℕ). length xs) (sym all ∙ none))) goes
 
 taken : (before after : Option (List ℕ)) (line : List ℕ) → Consumes before after (line ++ 10 ∷ []) → IfKnown before (λ bytes. (rest : List ℕ) × (bytes ≡ line ++ 10 ∷ rest))
 taken before after line h = λ bytes e.

@@ -2,6 +2,7 @@
 use Rattle.std.proofs.Common.{◌≡◌, ℕ, List, [], ◌∷◌, ◌++◌, map, refl, sym, ap, ◌∙◌, append_assoc, append-nil, codes}
 use Rattle.std.specs.List.{flat_map, join_with_byte}
 use Rattle.std.specs.Fmt.{decimal}
+use Rattle.std.proofs.lemmas.Grind.{flat_map-append}
 use Rattle.resolvo_text.specs.declared.spec.Spec as code
 use Rattle.resolvo_text.specs.Line.{Spec}
 use Rattle.resolvo_text.specs.Spelling.{Words, spec_words, span_words, alternatives_words}
@@ -46,3 +47,11 @@ mapped (l ∷ ls) = ap (λ (t : List ℕ). (codes "; " ++ literal_text (literal_
 
 pub clause_parted : (l : code_literal.Literal) (ls : List code_literal.Literal) → clause_text (literals_of (l ∷ ls)) ≡ codes "[" ++ literal_text (literal_of l) ++ parted ls ++ codes "]"
 clause_parted l ls = ap (λ (t : List ℕ). codes "[" ++ literal_text (literal_of l) ++ t ++ codes "]") (mapped ls)
+
+-- one more literal
+pub parted_push : (ls : List code_literal.Literal) (l : code_literal.Literal) → parted ls ++ (codes "; " ++ literal_text (literal_of l)) ≡ parted (ls ++ l ∷ [])
+parted_push ls l = sym (flat_map-append (λ m. codes "; " ++ literal_text (literal_of m)) ls (l ∷ []) ∙ ap (λ (t : List ℕ). parted ls ++ t) (append-nil (codes "; " ++ literal_text (literal_of l))))
+
+-- one more alternative
+pub bars_push : (ss : List code.Spec) (s : code.Spec) → with_bars ss ++ (codes " | " ++ join_with_byte 32 (spec_words (spec_of s))) ≡ with_bars (ss ++ s ∷ [])
+bars_push ss s = sym (flat_map-append (λ t. codes " | " ++ join_with_byte 32 (spec_words (spec_of t))) ss (s ∷ []) ∙ ap (λ (t : List ℕ). with_bars ss ++ t) (append-nil (codes " | " ++ join_with_byte 32 (spec_words (spec_of s)))))

@@ -64,13 +64,29 @@ specs_at words = alternatives_at (length words) words
 
 -- ---- literals
 
+unfoldable pub any_atom_in : Words → Option Atom
+any_atom_in words = whole reason_at (λ name. AnyOf name) words
+
+unfoldable pub shared_atom_in : Words → Option Atom
+shared_atom_in words = whole specs_at (λ ss. SharedBy ss) words
+
+unfoldable pub outside_atom_in : Words → Option Atom
+outside_atom_in words = whole spec_at (λ s. OutsideOf s) words
+
+unfoldable pub matches_atom_in : Words → Option Atom
+matches_atom_in words = whole spec_at (λ s. MatchesOf s) words
+
+unfoldable pub bit_atom_in : Words → Option Atom
+bit_atom_in words = whole (pair_at bit_at (behind_at (codes "of") reason_at)) (λ x. BitOf x.0 x.1) words
+
+-- the atom of this first word and the words after it
 unfoldable pub atom_by : List ℕ → Words → Option Atom
 atom_by k words =
-    if bytes_eq k (codes "any") then whole reason_at (λ name. AnyOf name) words
-    else if bytes_eq k (codes "shared") then whole specs_at (λ ss. SharedBy ss) words
-    else if bytes_eq k (codes "outside") then whole spec_at (λ s. OutsideOf s) words
-    else if bytes_eq k (codes "matches") then whole spec_at (λ s. MatchesOf s) words
-    else if bytes_eq k (codes "bit") then whole (pair_at bit_at (behind_at (codes "of") reason_at)) (λ x. BitOf x.0 x.1) words
+    if bytes_eq k (codes "any") then any_atom_in words
+    else if bytes_eq k (codes "shared") then shared_atom_in words
+    else if bytes_eq k (codes "outside") then outside_atom_in words
+    else if bytes_eq k (codes "matches") then matches_atom_in words
+    else if bytes_eq k (codes "bit") then bit_atom_in words
     else (version_in k >>= λ v. end_at words >>= λ _. Some (Chosen v))
 
 unfoldable pub atom_in : Words → Option Atom

@@ -7,7 +7,7 @@ ghost use Rattle.std.specs.List.{position};
 ghost use Rattle.resolvo_text.specs.View.{version_of, specs_of};
 ghost use Rattle.resolvo_text.specs.Parse.{Gives, words_in};
 ghost use Rattle.resolvo_report.specs.View.{place_of, atom_of, literal_of};
-ghost use Rattle.resolvo_report.specs.Parse.{is_equals, behind, version_in, version_at, place_at, number_at, line_number_at, bit_at, line_at, specs_at, atom_by, atom_in, literal_in, literal_behind, line_in};
+ghost use Rattle.resolvo_report.specs.Parse.{is_equals, behind, version_in, version_at, place_at, number_at, line_number_at, bit_at, line_at, specs_at, any_atom_in, shared_atom_in, outside_atom_in, matches_atom_in, bit_atom_in, atom_by, atom_in, literal_in, literal_behind, line_in};
 
 use crate::step::{Atom, Literal, Place};
 use resolvo_text::{
@@ -130,36 +130,72 @@ pub(crate) fn specs_at(alloc: Global, words: &[u8]) -> Result<(Vec<Spec>, &[u8])
     Ok((alternatives.into_vec(alloc)?, rest))
 }
 
+/// Any version of this package.
+#[tactic(auto, unfolding(crate::specs::Parse::any_atom_in))]
+fn any_atom_in(alloc: Global, words: &[u8]) -> Result<Atom, LineFault>
+    ensures { Gives atom_of result (any_atom_in (words_in words.now)) }
+{
+    let (name, rest) = reason_at(alloc, words)?;
+    no_more(rest)?;
+    Ok(Atom::Any { name })
+}
+
+#[tactic(auto, unfolding(crate::specs::Parse::shared_atom_in))]
+fn shared_atom_in(alloc: Global, words: &[u8]) -> Result<Atom, LineFault>
+    ensures { Gives atom_of result (shared_atom_in (words_in words.now)) }
+{
+    let (alternatives, rest) = specs_at(alloc, words)?;
+    no_more(rest)?;
+    Ok(Atom::Shared { alternatives })
+}
+
+#[tactic(auto, unfolding(crate::specs::Parse::outside_atom_in))]
+fn outside_atom_in(alloc: Global, words: &[u8]) -> Result<Atom, LineFault>
+    ensures { Gives atom_of result (outside_atom_in (words_in words.now)) }
+{
+    let (spec, rest) = spec_at(alloc, words)?;
+    no_more(rest)?;
+    Ok(Atom::Outside { spec })
+}
+
+#[tactic(auto, unfolding(crate::specs::Parse::matches_atom_in))]
+fn matches_atom_in(alloc: Global, words: &[u8]) -> Result<Atom, LineFault>
+    ensures { Gives atom_of result (matches_atom_in (words_in words.now)) }
+{
+    let (spec, rest) = spec_at(alloc, words)?;
+    no_more(rest)?;
+    Ok(Atom::Matches { spec })
+}
+
+#[tactic(auto, unfolding(crate::specs::Parse::bit_atom_in))]
+fn bit_atom_in(alloc: Global, words: &[u8]) -> Result<Atom, LineFault>
+    ensures { Gives atom_of result (bit_atom_in (words_in words.now)) }
+{
+    let (bit, rest) = bit_at(words)?;
+    let (name, rest) = reason_at(alloc, behind(rest, b"of")?)?;
+    no_more(rest)?;
+    Ok(Atom::Bit { bit, name })
+}
+
 /// The atom, from its first word and the words after it.
 #[tactic(auto, unfolding(crate::specs::Parse::atom_by))]
 fn atom_by(alloc: Global, keyword: &[u8], words: &[u8]) -> Result<Atom, LineFault>
-    ensures { Gives atom_of result (atom_by keyword.now (words_in words.now)) }
+    ensures { Gives (λ a. atom_of a) result (atom_by keyword.now (words_in words.now)) }
 {
     if keyword == b"any".as_slice() {
-        let (name, rest) = reason_at(alloc, words)?;
-        no_more(rest)?;
-        return Ok(Atom::Any { name });
+        return any_atom_in(alloc, words);
     }
     if keyword == b"shared".as_slice() {
-        let (alternatives, rest) = specs_at(alloc, words)?;
-        no_more(rest)?;
-        return Ok(Atom::Shared { alternatives });
+        return shared_atom_in(alloc, words);
     }
     if keyword == b"outside".as_slice() {
-        let (spec, rest) = spec_at(alloc, words)?;
-        no_more(rest)?;
-        return Ok(Atom::Outside { spec });
+        return outside_atom_in(alloc, words);
     }
     if keyword == b"matches".as_slice() {
-        let (spec, rest) = spec_at(alloc, words)?;
-        no_more(rest)?;
-        return Ok(Atom::Matches { spec });
+        return matches_atom_in(alloc, words);
     }
     if keyword == b"bit".as_slice() {
-        let (bit, rest) = bit_at(words)?;
-        let (name, rest) = reason_at(alloc, behind(rest, b"of")?)?;
-        no_more(rest)?;
-        return Ok(Atom::Bit { bit, name });
+        return bit_atom_in(alloc, words);
     }
     let version = version_in(alloc, keyword)?;
     no_more(words)?;

@@ -149,33 +149,53 @@ impl fmt::Display for Step {
         match self {
             Step::Need { place, line, case } => write!(f, "need {place} line {line} case {case}"),
             Step::Gate { version, line } => write!(f, "gate {} line {line}", OneWord(version)),
-            Step::Shared { alternatives } => write!(f, "shared{}", Alternatives(alternatives)),
             Step::LimitBars {
                 place,
                 line,
                 version,
             } => write!(f, "limit {place} line {line} bars {}", OneWord(version)),
             Step::Limit { place, line } => write!(f, "limit {place} line {line}"),
+            Step::Lock { line, version } => {
+                write!(f, "lock line {line} bars {}", OneWord(version))
+            }
+            Step::Exclude { line } => write!(f, "exclude line {line}"),
+            Step::Unknown { line } => write!(f, "unknown line {line}"),
+            Step::Derive { literals, causes } => {
+                write!(f, "derive {} by{}", Clause(literals), Causes(causes))
+            }
+            Step::Shared { .. }
+            | Step::Outside { .. }
+            | Step::Matches { .. }
+            | Step::Digit { .. }
+            | Step::Any { .. } => self.write_definition(f),
+        }
+    }
+}
+
+impl Step {
+    ghost use Rattle.std.specs.Fmt.{WritesOnOk};
+    ghost use Rattle.resolvo_report.specs.Pieces.{definition_text};
+
+    /// Writes a step that defines an atom; of any other step nothing.
+    // split for the prover
+    fn write_definition<W: fmt::Write>(&self, f: &mut fmt::Formatter<W>) -> fmt::Result
+        ensures { WritesOnOk W.write_str_gives f.old result (definition_text (step_of self.now)) f.new }
+    {
+        match self {
+            Step::Shared { alternatives } => write!(f, "shared{}", Alternatives(alternatives)),
             Step::Outside { spec, version } => {
                 write!(f, "outside {} holds {}", Asked(spec), OneWord(version))
             }
             Step::Matches { spec, version } => {
                 write!(f, "matches {} holds {}", Asked(spec), OneWord(version))
             }
-            Step::Lock { line, version } => {
-                write!(f, "lock line {line} bars {}", OneWord(version))
-            }
-            Step::Exclude { line } => write!(f, "exclude line {line}"),
-            Step::Unknown { line } => write!(f, "unknown line {line}"),
             Step::Digit {
                 version,
                 place,
                 bit,
             } => write!(f, "digit {} place {place} bit {bit}", OneWord(version)),
             Step::Any { version } => write!(f, "any {}", OneWord(version)),
-            Step::Derive { literals, causes } => {
-                write!(f, "derive {} by{}", Clause(literals), Causes(causes))
-            }
+            _ => Ok(()),
         }
     }
 }
