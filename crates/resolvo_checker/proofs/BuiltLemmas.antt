@@ -59,9 +59,6 @@ number_more vs old middle before new after built i d l first next clause e =
 
 -- ---- one more SPEC
 
-pub flat_map_more : {X Y : Type 0} (f : X → List Y) (xs : List X) (i : ℕ) (d : X) → i < length xs → flat_map f (take (i + 1) xs) ≡ flat_map f (take i xs) ++ f (get_or xs i d)
-flat_map_more f xs i d h = ap (flat_map f) (take_more xs i d h) ∙ (flat_map-append f (take i xs) (get_or xs i d ∷ []) ∙ ap (λ ys. flat_map f (take i xs) ++ ys) (append-nil (f (get_or xs i d))))
-
 -- the literals of one more SPEC
 pub somes_more : (f : Spec → Clause) (specs : List code.Spec) (i : ℕ) (d : code.Spec) → i < length specs
     → somes (flat_map f (specs_of (take (i + 1) specs))) ≡ somes (flat_map f (specs_of (take i specs))) ++ somes (f (spec_of (get_or specs i d)))

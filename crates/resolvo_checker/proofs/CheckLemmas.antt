@@ -14,7 +14,7 @@ use Rattle.resolvo_catalogue_core.specs.Sets.{is_many}
 use Rattle.resolvo_pool_core.specs.OnePass.{AreNamed, AreNamedClauses, one_pass}
 use Rattle.resolvo_pool_core.proofs.PassNamed.{one_pass_alike}
 use Rattle.std.specs.Int.{bit_at}
-use Rattle.resolvo_report.specs.Value.{Atom, BitOf, Step}
+use Rattle.resolvo_report.specs.Value.{BitOf, Step}
 use Rattle.resolvo_report.specs.Value as step
 use Rattle.resolvo_report.specs.View as view
 use Rattle.resolvo_report.specs.declared.step.Literal as code
@@ -38,9 +38,6 @@ use Rattle.resolvo_checker.proofs.Sets.{same_own, same_is}
 use Rattle.resolvo_checker.proofs.NameLemmas.{names_agree, named_kept, extends_then, extends_all}
 
 -- ---- literals of a derived clause
-
-atoms_at : (c : List Line) → code.Literal → Bool
-atoms_at c l = is_atom c (view.atom_of l.atom)
 
 more : {B : Type 0} (f : List code.Literal → B) (ls : List code.Literal) (i : ℕ) (l : code.Literal) → i < length ls → l ≡ get_or ls i l → f (take (i + 1) ls) ≡ f (take i ls ++ l ∷ [])
 more f ls i l h is = ap f (take_more ls i l h ∙ ap (λ (x : code.Literal). take i ls ++ x ∷ []) (sym is))

@@ -78,10 +78,6 @@ module _ (whole : List Version) (q : Version → Bool) where
   abbrev chosen : List ℕ → List (Option (pass.Literal Atom))
   chosen xs = map (positive_at whole) xs
 
-  one_more : (b : Bool) (x : Version) (xs : List Version) → map (λ v. Some (is_in v)) (cond b (x ∷ xs) xs) ≡ cond b (Some (is_in x) ∷ map (λ v. Some (is_in v)) xs) (map (λ v. Some (is_in v)) xs)
-  one_more true x xs = refl
-  one_more false x xs = refl
-
   -- the first number is the one at m
   first_is : (m : ℕ) (xs : List ℕ) → AreFrom m xs → IsNumbered m → (ys : List ℕ) × (xs ≡ m ∷ ys) × AreFrom (suc m) ys
   first_is m [] a p = absurd (a.all m (omega arith) p)

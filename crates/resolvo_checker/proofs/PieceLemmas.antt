@@ -1,9 +1,9 @@
 -- Lemmas on clauses in one flat list, and on long clauses.
 use Rattle.std.proofs.Common.{◌≡◌, inl, inr, ℕ, zero, suc, ◌+◌, ◌-◌, ◌<◌, ◌≤◌, List, [], ◌∷◌, ◌++◌, length, take, drop, Option, Some, None, refl, sym, ap, subst, ◌∙◌, arith, length-append, slice_set}
-use Rattle.std.specs.Prelude.{slice_get, slice_index_or, Result, Ok, Err, OnOk, OnErr}
+use Rattle.std.specs.Prelude.{slice_get, Result, Ok, Err, OnOk, OnErr}
 use Rattle.std.specs.List.{slice_range}
 use Rattle.std.specs.Option.{option_map, option_and_then}
-use Rattle.std.proofs.lemmas.List.{take-append-le, drop-append-le, drop_at, take_all, length-drop, map-append}
+use Rattle.std.proofs.lemmas.List.{take-append-le, drop-append-le, drop_at, take_all, length-drop}
 use Rattle.std.proofs.lemmas.Option.{slice_get-map, same_Some, none-some, get_or_from_slice_get}
 use Rattle.resolvo_report.specs.Value.{Step}
 use Rattle.resolvo_report.specs.declared.step.Step.{Step as CodeStep}
@@ -23,10 +23,6 @@ err_map (Err e) h f = f h
 pub on_ok_map : {X E P Q : Type 0} (r : Result X E) → OnOk r P → (P → Q) → OnOk r Q
 on_ok_map (Ok x) h f = f h
 on_ok_map (Err e) h f = tt
-
-pub length-pieces : (flat : List Literal) (longs : List Long) (kept : List CodeKept) → length (pieces flat longs kept) ≡ length kept
-length-pieces flat longs [] = refl
-length-pieces flat longs (k ∷ kept) = ap suc (length-pieces flat longs kept)
 
 -- ---- ranges
 
@@ -170,11 +166,6 @@ within-again flat longs kept n k e h = record { long = h.long; each = one kept h
   one : (ks : List CodeKept) → AreKeptWithin (length flat) (length longs) ks → AreKeptWithin (length flat) (length longs) (ks ++ k ∷ [])
   one [] g = (kept_at (length flat) (length longs) kept n k h.each e, tt)
   one (x ∷ ks) g = (g.0, one ks g.1)
-
-pub pieces-again : (flat : List Literal) (longs : List Long) (kept : List CodeKept) (n : ℕ) (k : CodeKept) → slice_get kept n ≡ Some k → pieces flat longs (kept ++ k ∷ []) ≡ pieces flat longs kept ++ slice_index_or (pieces flat longs kept) n (Ready []) ∷ []
-pieces-again flat longs kept n k e =
-    map-append (piece flat longs) kept (k ∷ [])
-    ∙ ap (λ p. pieces flat longs kept ++ p ∷ []) (sym (get_or_from_slice_get (pieces flat longs kept) n (piece flat longs k) (Ready []) (get-pieces flat longs kept n k e)))
 
 -- ---- a deferred clause, and how it is built
 

@@ -1,6 +1,6 @@
 -- Each step of a proof is true over each single set that obeys the named lines, with the places that the digit steps give.
 use Rattle.std.proofs.Common.{◌≡◌, ℕ, zero, suc, ◌<◌, ◌≤◌, Bool, true, false, List, [], ◌∷◌, ◌++◌, map, length, take, Option, Some, None, refl, sym, ap, ◌∙◌, subst, inl, inr, cond, arith, eqb, ltb, leb}
-use Rattle.std.specs.Prelude.{not, ◌&&◌, ◌||◌, slice_get, is_some, unwrap_or, Contains}
+use Rattle.std.specs.Prelude.{not, ◌&&◌, ◌||◌, slice_get, is_some, unwrap_or}
 use Rattle.std.specs.Option.{option_and_then, option_map_or}
 use Rattle.std.specs.List.{list_all}
 use Rattle.std.specs.Bool.{beq}
@@ -8,11 +8,10 @@ use Rattle.std.proofs.lemmas.Bool.{false≢true, and_parts, or_cases, and_from, 
 use Rattle.std.proofs.lemmas.Option.{cond_some, none-some, same_Some}
 use Rattle.std.proofs.lemmas.List.Folds.{list_all-append}
 use Rattle.std.proofs.lemmas.List.{append_assoc, append-nil}
-use Rattle.resolvo_text.specs.Line.{Version, Line, Listed}
+use Rattle.resolvo_text.specs.Line.{Version, Line}
 use Rattle.resolvo_text.specs.Matches.{Set, same_version, is_member}
 use Rattle.resolvo_catalogue_core.specs.Grammar.{line_at, owner_of}
 use Rattle.resolvo_catalogue_core.specs.Rules.{obeys}
-use Rattle.resolvo_catalogue_core.specs.Listed.{listed}
 use Rattle.resolvo_catalogue_core.specs.Sets.{IsSingle}
 use Rattle.resolvo_pool_core.specs.OnePass.{is_true_at, clause_true, one_pass}
 use Rattle.resolvo_pool_core.proofs.PassSound.{one_pass_true}
@@ -164,9 +163,6 @@ module _ (catalogue request : List Line) (catalogue_line request_line : ℕ → 
   Placed (step.Unknown l) = Unit {0}
   Placed (step.Any w) = Unit {0}
   Placed (step.Derive c d) = Unit {0}
-
-  there : (v : Version) → Contains catalogue (Listed v) → is_member v (listed catalogue) ≡ true
-  there = listed_in catalogue
 
   clause_is_true : (s : Step) (c : Clause) → clause_of catalogue request s ≡ Some c → rests_on_named catalogue_line request_line s ≡ true → (earlier : List Step) → follows catalogue request earlier s ≡ true → list_all step_true earlier ≡ true → Placed s → clause_true (value_of set place) c ≡ true
   clause_is_true (step.Need p line case) c h n earlier f t k = by_place p line (need_clause catalogue p case) c n (λ d e. none-some d e) (λ owner l s o e. need_true catalogue set place single (listed_in catalogue) p owner case l c s o e) h

@@ -24,14 +24,6 @@ use Rattle.resolvo_checker.proofs.CheckLemmas.{same_length}
 use Rattle.resolvo_judge.proofs.ForbidLemmas.{all_forbidden, answers_first}
 use Rattle.resolvo_judge.proofs.ForbiddenLemmas.{forbidden_each, forbidden_all}
 
--- the last step of a refusal
-pub refused_ends : (catalogue request : List Line) (j : JudgeState) (clauses : List Kept) (r : Report) → j.refused ≡ true → JudgeInvariant catalogue request j clauses (report_lines r) → DecidesEnd catalogue request (report_lines r) j.log.ends_empty
-refused_ends catalogue request j clauses (Install ls ss) refused represents = absurd (false≢true (sym represents.refused ∙ refused))
-refused_ends catalogue request j clauses (Refused cs rs ss ms) refused represents = one j.log.ends_empty represents.log.ends where
-  one : (b : Bool) → b ≡ ends_empty (steps_in (report_lines (Refused cs rs ss ms))) → DecidesEnd catalogue request (report_lines (Refused cs rs ss ms)) b
-  one true e = sym e
-  one false e = λ ends. false≢true (e ∙ ends)
-
 -- the end of an install report, by the answer for its left-out wishes
 by_answer : (catalogue request : List Line) (rest : List ReportLine) (fine : Bool) → KeepsAll catalogue request (entries_of (answers_in rest)) true → AreWishesAnswered request (answers_in rest) true
     → fine ≡ list_all (is_forbidden catalogue request (steps_in rest) (entries_of (answers_in rest))) (forbidden_from 0 (answers_in rest)) → DecidesEnd catalogue request (InstallHead ∷ rest) fine

@@ -24,7 +24,7 @@ use Rattle.resolvo_judge.specs.declared.forbidden_wishes.Forbidden as code
 use Rattle.resolvo_judge.specs.declared.forbidden_wishes.ForbiddenWishes.{ForbiddenWishes}
 use Rattle.resolvo_judge.specs.ForbiddenWishes.{ForbiddenWish, forbidden_of, named_by, wishes_kept, HoldsWishes, AddsWish}
 use Rattle.resolvo_judge.specs.KeptAnswers.{forbidden_from}
-use Rattle.resolvo_judge.specs.Refusal.{answer_in, answers_in, step_in, steps_in, step_forbids, passes}
+use Rattle.resolvo_judge.specs.Refusal.{answers_in, step_in, steps_in, step_forbids, passes}
 use Rattle.resolvo_judge.specs.Forbids.{literal_forbids, built_forbid, clause_forbids, is_forbidden, is_forbidden_so_far, AreFirst, FlagsForbidden}
 use Rattle.resolvo_judge.proofs.Accepted.{get_seam}
 use Rattle.resolvo_judge.proofs.LogLemmas.{one_more, no_answers_more}
@@ -216,12 +216,6 @@ module _ (catalogue request : List Line) where
 
   steps_same : (above : List ReportLine) (l : ReportLine) → step_in l ≡ [] → steps_in above ≡ steps_in (above ++ l ∷ [])
   steps_same above l none = sym (one_more step_in above l [] none ∙ append-nil (steps_in above))
-
-  pub flags_plain : (forbidden : Bool) (above : List ReportLine) (l : ReportLine) → answer_in l ≡ [] → step_in l ≡ [] → FlagsForbidden catalogue request forbidden above → FlagsForbidden catalogue request forbidden (above ++ l ∷ [])
-  flags_plain forbidden above l answers steps flags first =
-      flags (first_prefix above l first)
-      ∙ ap (λ xs. list_all (is_forbidden_so_far catalogue request xs (entries_of (answers_in above))) (forbidden_from 0 (answers_in above))) (steps_same above l steps)
-      ∙ ap (λ xs. list_all (is_forbidden_so_far catalogue request (steps_in (above ++ l ∷ [])) (entries_of xs)) (forbidden_from 0 xs)) (no_answers_more above l answers)
 
   pub flags_answer : (forbidden : Bool) (above : List ReportLine) (a : AnswerLine) → FlagsForbidden catalogue request forbidden above → FlagsForbidden catalogue request forbidden (above ++ line.Answer a ∷ [])
   flags_answer forbidden above a flags first =

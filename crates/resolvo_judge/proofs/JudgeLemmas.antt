@@ -234,9 +234,6 @@ module _ (catalogue request : List Line) (known before after : Option (List ℕ)
   pub few_causes : causes_named reached.report + causes_of_line l ≤ most_bytes
   few_causes = omega (arith, (lines_within (report_lines reached.report)).0, line_within l, length-append (line_text l) (codes "\n"), reached.read.used, g.room)
 
-  pub few_lines : r.number + 1 ≤ most_bytes
-  few_lines = omega (arith, (lines_within (report_lines reached.report)).1, length-append (line_text l) (codes "\n"), reached.read.used, reached.read.count, g.room)
-
   pub is_no_head : is_head l ≡ false
   is_no_head = no_head reached.report l s.part (ap (λ (p : Part). next_part p l) (sym reached.part) ∙ g.placed)
 

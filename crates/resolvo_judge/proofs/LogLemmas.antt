@@ -94,22 +94,6 @@ module _ (catalogue request : List Line) (entries : List (Vec ℕ × ℕ)) (clau
     ends = represents.ends ∙ ap ends_empty (sym (without_step (RequestLine m) refl));
   }
 
-  -- ---- lines that name no line and give no step
-
-  plain_more : (l : ReportLine) → is_refusal (l ∷ []) ≡ false → step_in l ≡ [] → catalogue_line_in l ≡ [] → request_line_in l ≡ [] → LogInvariant catalogue request entries clauses places rules scope empty (above ++ l ∷ [])
-  plain_more l r s c q = record {
-    steps = subst (λ (xs : List Step). CheckerInvariant catalogue request entries clauses places rules xs) (sym (without_step l s)) represents.steps;
-    catalogue_lines = λ n. represents.catalogue_lines n ∙ sym (lines_more l catalogue_line_in [] c r n ∙ ap (λ xs. may_rest above xs n) (append-nil (catalogue_lines_in above)));
-    request_lines = λ n. represents.request_lines n ∙ sym (lines_more l request_line_in [] q r n ∙ ap (λ xs. may_rest above xs n) (append-nil (request_lines_in above)));
-    ends = represents.ends ∙ ap ends_empty (sym (without_step l s));
-  }
-
-  pub answer_more : (a : AnswerLine) → LogInvariant catalogue request entries clauses places rules scope empty (above ++ line.Answer a ∷ [])
-  answer_more a = plain_more (line.Answer a) refl refl refl refl
-
-  pub message_more : (b : List ℕ) → LogInvariant catalogue request entries clauses places rules scope empty (above ++ Message b ∷ [])
-  message_more b = plain_more (Message b) refl refl refl refl
-
 -- the answers of one line more
 pub answers_more : (above : List ReportLine) (l : ReportLine) (xs : List AnswerLine) → answer_in l ≡ xs → answers_in (above ++ l ∷ []) ≡ answers_in above ++ xs
 answers_more above l xs h = one_more answer_in above l xs h

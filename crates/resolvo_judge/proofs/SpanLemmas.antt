@@ -69,12 +69,6 @@ found_one m (e ∷ es) = by_test (is_at (nat_cmp m) e.0) refl (found_one m es)
     by_test true t rest = sym (ap (λ (b : Bool). b || list_any (λ x. x.0 == m) es) (sym (one_in m e.0) ∙ t))
     by_test false t rest = rest ∙ sym (ap (λ (b : Bool). b || list_any (λ x. x.0 == m) es) (sym (one_in m e.0) ∙ t))
 
-range_in : (low high n : ℕ) → range_contains nat_cmp (Included low) (Excluded high) n ≡ nat_le low n && nat_lt n high
-range_in low high n = grind (arith, nat_tests)
-
-pub found_range : (low high : ℕ) (es : List (ℕ × ℕ)) → list_any (λ e. range_contains nat_cmp (Included low) (Excluded high) e.0) es ≡ list_any (λ e. is_in_span (Range low high) e.0) es
-found_range low high es = any_same (λ e. range_contains nat_cmp (Included low) (Excluded high) e.0) (λ e. is_in_span (Range low high) e.0) (λ e. range_in low high e.0) es
-
 empty_range : (low high n : ℕ) → high ≤ low → nat_le low n && nat_lt n high ≡ false
 empty_range low high n le = grind (arith, nat_tests)
 
