@@ -1,5 +1,5 @@
 -- A graph with one node more, and the edge at an index.
-use Rattle.std.proofs.Common.{◌≡◌, ◌∙◌, ℕ, ◌<◌, ◌≤◌, Bool, true, false, cond, List, [], ◌∷◌, ◌++◌, All, Some, None, get_or, length, length-append, refl, sym, ap, subst, arith}
+use Rattle.std.proofs.Common.{◌≡◌, ◌∙◌, ℕ, ◌<◌, ◌≤◌, ◌+◌, Bool, true, false, cond, List, [], ◌∷◌, ◌++◌, All, Option, Some, None, drop, get_or, length, length-append, refl, sym, ap, subst, arith}
 use Rattle.std.specs.Prelude.{slice_get}
 use Rattle.std.specs.Option.{option_map}
 use Rattle.std.proofs.lemmas.Option.{slice_get-map, slice_get_read, slice_get_past}
@@ -7,8 +7,10 @@ use Rattle.resolvo_graph.specs.declared.graph.ConflictNode.{ConflictNode}
 use Rattle.resolvo_graph.specs.declared.graph.ConflictNode.TheVariants.{Root}
 use Rattle.resolvo_graph.specs.declared.graph.Edge.{Edge}
 use Rattle.resolvo_graph.specs.declared.links.LinkedEdge.{LinkedEdge}
-use Rattle.resolvo_graph.specs.Graph.{IsWithin}
+use Rattle.resolvo_graph.specs.declared.graph.NodeIndex.{NodeIndex}
+use Rattle.resolvo_graph.specs.Graph.{IsWithin, is_unresolved, first_unresolved}
 use Rattle.resolvo_graph.specs.Links.{edges_in}
+use Rattle.resolvo_graph.proofs.ListLemmas.{left}
 
 module _ {S : Type 0} (n : ConflictNode S) where
   still_first : (nodes : List (ConflictNode S)) → slice_get nodes 0 ≡ Some Root → slice_get (nodes ++ n ∷ []) 0 ≡ Some Root
@@ -35,3 +37,14 @@ pub edge_past : {S : Type 0} (xs ys : List (LinkedEdge S)) (i : ℕ) → xs ≡ 
 edge_past {S} xs ys i same h =
     let f : LinkedEdge S → Edge S = λ k. k.edge in
     sym (ap (λ zs. slice_get (edges_in zs) i) (sym same) ∙ slice_get-map f xs i ∙ ap (option_map f) (slice_get_past xs i h))
+
+-- the unresolved node is this one, or among those behind it
+module _ {S : Type 0} (ns : List (ConflictNode S)) (i : ℕ) (n : ConflictNode S) (b : Bool) (all : Option NodeIndex) (h : i < length ns) (at : n ≡ get_or ns i n) (is : b ≡ is_unresolved n) (so : all ≡ first_unresolved i (drop i ns)) where
+  here : all ≡ cond b (Some (record { 0 = i })) (first_unresolved (i + 1) (drop (i + 1) ns))
+  here = so ∙ ap (first_unresolved i) (left ns i n n h at) ∙ ap (λ u. cond u (Some (record { 0 = i })) (first_unresolved (i + 1) (drop (i + 1) ns))) (sym is)
+
+  pub first_here : b ≡ true → Some (record { 0 = i }) ≡ all
+  first_here holds = sym (here ∙ ap (λ u. cond u (Some (record { 0 = i })) (first_unresolved (i + 1) (drop (i + 1) ns))) holds)
+
+  pub first_later : b ≡ false → all ≡ first_unresolved (i + 1) (drop (i + 1) ns)
+  first_later fails = here ∙ ap (λ u. cond u (Some (record { 0 = i })) (first_unresolved (i + 1) (drop (i + 1) ns))) fails

@@ -12,7 +12,8 @@ use Rattle.resolvo_graph.specs.declared.graph.ConflictNode.{ConflictNode}
 use Rattle.resolvo_graph.specs.declared.merge.Member.{Member}
 use Rattle.resolvo_graph.specs.declared.merge.MergedConflictNode.{MergedConflictNode}
 use Rattle.resolvo_graph.specs.Kept.{ids_at}
-use Rattle.resolvo_graph.specs.Merge.{solvable_of, with_version, versions_from, numbered}
+use Rattle.resolvo_graph.specs.Graph.{Graph}
+use Rattle.resolvo_graph.specs.Merge.{Profile, IsProfile, solvable_of, with_version, versions_from, numbered}
 
 pub zip_one : {A B : Type 0} (R : A → B → Type 0) (xs : List A) (ys : List B) (x : A) (y : B) → AllZip R xs ys → R x y → AllZip R (xs ++ x ∷ []) (ys ++ y ∷ [])
 zip_one R [] [] x y h r = (r, tt)
@@ -37,6 +38,10 @@ taken : {S : Type 0} (ns : List (ConflictNode S)) (i : ℕ) (n : ConflictNode S)
 taken ns i n h at =
     let long : 0 + length (take i ns) ≡ i = omega (arith, length-take i ns) in
     ap (versions_from 0) (take_more ns i n h ∙ ap (λ x. take i ns ++ x ∷ []) (sym at)) ∙ versions_from-last 0 (take i ns) n ∙ ap (λ k. versions_from 0 (take i ns) ++ with_version k (solvable_of n) []) long
+
+-- a profile with its version's package
+pub profile_named : {N S : Type 0} (g : Graph S) (name_of : S → N) (v : NodeIndex × S) (n : N) (p : Profile N S) → n ≡ name_of v.1 → IsProfile g (λ s. n) v p → IsProfile g name_of v p
+profile_named g name_of v n p is h = record { solvable = h.solvable; name = h.name ∙ is; before = h.before; after = h.after }
 
 -- one profile more, for a version
 pub profile_more : {S P : Type 0} (R : NodeIndex × S → P → Type 0) (ns : List (ConflictNode S)) (found now : List P) (i : ℕ) (n : ConflictNode S) (o : Option S) (s : S) (p : P) → AllZip R (versions_from 0 (take i ns)) found → i < length ns → n ≡ get_or ns i n → o ≡ solvable_of n → o ≡ Some s → R (record { 0 = i }, s) p → now ≡ found ++ p ∷ [] → AllZip R (versions_from 0 (take (i + 1) ns)) now

@@ -1,7 +1,12 @@
 -- Nodes that are marked along an order, one after the other.
 use Rattle.std.proofs.Common.{◌≡◌, ℕ, ◌+◌, ◌<◌, Bool, true, false, cond, List, [], ◌∷◌, ◌++◌, drop, get_or, length, refl, sym, ap, ◌∙◌}
+use Rattle.std.specs.Prelude.{◌&&◌, not}
+use Rattle.std.specs.List.{list_any}
+use Rattle.resolvo_graph.specs.declared.graph.Edge.{Edge}
 use Rattle.resolvo_graph.specs.declared.graph.NodeIndex.{NodeIndex}
-use Rattle.resolvo_graph.specs.Outlook.{marked_along}
+use Rattle.resolvo_graph.specs.Graph.{Graph, edges_of, is_conflict, is_in_conflict}
+use Rattle.resolvo_graph.specs.Outlook.{marked_along, has_targets_in, misses_one}
+use Rattle.resolvo_graph.specs.Runs.{Run, runs_of}
 use Rattle.resolvo_graph.specs.Walk.{is_among}
 use Rattle.resolvo_graph.proofs.ListLemmas.{left}
 
@@ -17,3 +22,15 @@ module _ (test : List NodeIndex → NodeIndex → Bool) (order : List NodeIndex)
 
 pub at_end : (test : List NodeIndex → NodeIndex → Bool) (order : List NodeIndex) (i : ℕ) (all marked : List NodeIndex) → drop i order ≡ [] → all ≡ marked_along test marked (drop i order) → marked ≡ all
 at_end test order i all marked none so = sym (so ∙ ap (marked_along test marked) none)
+
+module _ {S : Type 0} (g : Graph S) (n : NodeIndex) (es ds : List (Edge S)) (b : Bool) (of : es ≡ edges_of g n) (same : ds ≡ es) (is : b ≡ list_any (λ e. is_conflict e.weight) ds) where
+  conflicts : b ≡ is_in_conflict g n
+  conflicts = is ∙ ap (list_any (λ e. is_conflict e.weight)) (same ∙ of)
+
+  -- a node in a conflict misses none
+  pub in_conflict : (marked : List NodeIndex) → b ≡ true → false ≡ misses_one g marked n
+  in_conflict marked holds = sym (ap (λ u. not u && list_any (has_targets_in marked) (runs_of (edges_of g n))) (sym conflicts ∙ holds))
+
+  pub misses_by : (marked : List NodeIndex) (rs to : List Run) (r : Bool) → b ≡ false → rs ≡ runs_of es → to ≡ rs → r ≡ list_any (has_targets_in marked) to → r ≡ misses_one g marked n
+  misses_by marked rs to r fails runs seen so =
+      so ∙ ap (list_any (has_targets_in marked)) (seen ∙ runs ∙ ap runs_of of) ∙ ap (λ u. not u && list_any (has_targets_in marked) (runs_of (edges_of g n))) (sym (sym conflicts ∙ fails))

@@ -7,6 +7,7 @@ use Rattle.resolvo_graph.specs.declared.graph.ConflictCause.TheVariants as Cause
 use Rattle.resolvo_graph.specs.declared.graph.ConflictEdge.{ConflictEdge}
 use Rattle.resolvo_graph.specs.declared.graph.ConflictEdge.TheVariants as Edges
 use Rattle.resolvo_graph.specs.declared.display_line.Verdict.TheVariants.{Locked}
+use Rattle.resolvo_graph.specs.declared.display_line.Sentence.{Sentence}
 use Rattle.resolvo_graph.specs.declared.display_line.Sentence.TheVariants as Sentences
 use Rattle.resolvo_graph.specs.declared.display_line.MessageLine.{MessageLine}
 use Rattle.resolvo_graph.specs.Graph.{Graph, edges_of}
@@ -18,13 +19,21 @@ use Rattle.resolvo_graph.specs.Tree.{Findings, IsTree, order_before}
 use Rattle.resolvo_graph.specs.Walk.{IsPostOrder, is_among}
 use Rattle.resolvo_graph.specs.Words.{Meaning, line_text}
 
--- the line of a conflict of the root itself: of a constraint, or of a lock
+-- the sentence on a conflict of the root itself: on a constraint, or on a lock
+abbrev pub conflict_sentence : {S : Type 0} → ConflictEdge S → Option (Sentence S)
+conflict_sentence (Edges.Requires q) = None
+conflict_sentence (Edges.Conflict (Causes.Locked s)) = Some (Sentences.Versions (s ∷ []) Locked)
+conflict_sentence (Edges.Conflict (Causes.Constrains v)) = Some (Sentences.Constraint v)
+conflict_sentence (Edges.Conflict Causes.ForbidMultipleInstances) = None
+conflict_sentence (Edges.Conflict Causes.Excluded) = None
+
+abbrev pub line_with : {S : Type 0} → Option (Sentence S) → Indent → List (MessageLine S)
+line_with None i = []
+line_with (Some s) i = record { indenter = i; sentence = s } ∷ []
+
+-- the line of a conflict of the root itself, if it has one
 abbrev pub conflict_line : {S : Type 0} → ConflictEdge S → Indent → List (MessageLine S)
-conflict_line (Edges.Requires q) i = []
-conflict_line (Edges.Conflict (Causes.Locked s)) i = record { indenter = i; sentence = Sentences.Versions (s ∷ []) Locked } ∷ []
-conflict_line (Edges.Conflict (Causes.Constrains v)) i = record { indenter = i; sentence = Sentences.Constraint v } ∷ []
-conflict_line (Edges.Conflict Causes.ForbidMultipleInstances) i = []
-conflict_line (Edges.Conflict Causes.Excluded) i = []
+conflict_line e i = line_with (conflict_sentence e) i
 
 -- the lines of the root's own conflicts; the last edge has the sign of a last sibling
 abbrev pub conflict_lines : {S : Type 0} → List (Edge S) → List (MessageLine S)
@@ -60,9 +69,17 @@ pub record IsMessage {N S : Type 0} (same_name : N → N → Bool) (same : S →
   pub are_merged : IsMerged same_name same g name_of merged
   pub parts : AreParts (record { graph = g; same = same; installable = installable_in g order; merged = merged }) (missing_in g order) (edges_of g (record { 0 = 0 })) lines
 
--- the lines along some walk, with these merged versions
+-- the lines along this walk, with these merged versions, where these nodes miss a candidate
+abbrev pub ArePartsAlong : {S : Type 0} → (S → S → Bool) → (S → Option (List S)) → Graph S → List NodeIndex → List NodeIndex → List (MessageLine S) → Type 0
+ArePartsAlong same merged g order missing lines = AreParts (record { graph = g; same = same; installable = installable_in g order; merged = merged }) missing (edges_of g (record { 0 = 0 })) lines
+
+-- the lines along this walk, with these merged versions
+abbrev pub AreLinesAlong : {S : Type 0} → (S → S → Bool) → (S → Option (List S)) → Graph S → List NodeIndex → List (MessageLine S) → Type 0
+AreLinesAlong same merged g order lines = ArePartsAlong same merged g order (missing_in g order) lines
+
+-- the lines along some walk
 abbrev pub AreLinesWith : {S : Type 0} → (S → S → Bool) → (S → Option (List S)) → Graph S → List (MessageLine S) → Type 0
-AreLinesWith same merged g lines = (order : List NodeIndex) × IsPostOrder g order × AreParts (record { graph = g; same = same; installable = installable_in g order; merged = merged }) (missing_in g order) (edges_of g (record { 0 = 0 })) lines
+AreLinesWith same merged g lines = (order : List NodeIndex) × IsPostOrder g order × AreLinesAlong same merged g order lines
 
 -- the bytes of these lines
 abbrev pub text_of : {N S : Type 0} → Meaning N S → List (MessageLine S) → List ℕ

@@ -1,13 +1,16 @@
 //! The lines of the message: an indent, and a sentence on a requirement, on merged versions, or
 //! on a constraint. docs/MESSAGES.md explains the sentences to those who read them.
-ghost use Rattle.std.specs.Prelude.{◌≡◌, ◌==◌, Some, length};
+ghost use Rattle.std.specs.Prelude.{◌≡◌, ◌==◌, ◌∷◌, [], IfOk, IsOkUnless, Some, length};
 ghost use Rattle.std.specs.Fmt.{WritesOnOk};
+ghost use Rattle.resolvo_pool_core.specs.declared.want.Want.TheVariants.{Memory};
 ghost use Rattle.resolvo_graph.specs.Words.{meaning_by, line_text, sentence_words, requirement_words, versions_words, set_words, admitted_words, constraint_words, words_before, words_behind, words_of};
 
 use crate::indenter::Indenter;
 use resolvo_pool_core::id::{SolvableId, StringId, VersionSetId};
 use resolvo_pool_core::provider::Interner;
 use resolvo_pool_core::requirement::{DisplayRequirement, Requirement};
+use resolvo_pool_core::want::R;
+use std::alloc::Global;
 use std::fmt;
 use std::marker::Model;
 
@@ -119,6 +122,18 @@ impl<S> Versions<S> {
         ensures { result.now ≡ self.now }
     {
         self.ids.as_slice()
+    }
+}
+
+impl<S: Copy> Versions<S> {
+    /// One version.
+    pub(crate) fn one(alloc: Global, version: S) -> R<Versions<S>>
+        ensures versions { IfOk result (λ v. v ≡ version ∷ []) }
+        ensures refusal { IsOkUnless result Memory }
+    {
+        let mut ids = Vec::new(alloc);
+        ids.push(version)?;
+        Ok(Versions { ids })
     }
 }
 

@@ -1,11 +1,11 @@
 //! The whole message: requirements without candidates, incompatible packages, and the conflicts of
 //! the root. Its lines are built by `new`, so that writing them takes no memory. `length_below`
 //! counts their bytes first, and keeps none of them.
-ghost use Rattle.std.specs.Prelude.{◌≡◌, ◌++◌, List, IfOk, OnOk, Some, filter, IsOkUnless};
+ghost use Rattle.std.specs.Prelude.{◌≡◌, ◌++◌, ◌∷◌, [], true, List, IfOk, OnOk, Some, cond, filter, IsOkUnless};
 ghost use Rattle.resolvo_pool_core.specs.declared.want.Want.TheVariants.{Memory};
 ghost use Rattle.resolvo_graph.specs.declared.display_line.MessageLine.{MessageLine};
 ghost use Rattle.resolvo_graph.specs.Graph.{edges_of};
-ghost use Rattle.resolvo_graph.specs.Message.{IsMessage, AreLinesWith, IsLengthBelow, AreParts, IsSecondPart, conflict_line, conflict_lines, misses, fits, text_of};
+ghost use Rattle.resolvo_graph.specs.Message.{IsMessage, ArePartsAlong, AreLinesAlong, AreLinesWith, IsLengthBelow, AreParts, IsSecondPart, heading, conflict_sentence, conflict_line, conflict_lines, misses, fits, text_of};
 ghost use Rattle.resolvo_graph.specs.Kept.{findings, merged_with};
 ghost use Rattle.resolvo_graph.specs.Sink.{Adds};
 ghost use Rattle.resolvo_graph.specs.Words.{meaning_by};
@@ -13,11 +13,11 @@ ghost use Rattle.resolvo_graph.specs.Words.{meaning_by};
 use crate::count::Count;
 use crate::display_line::{DisplayLine, MessageLine, Sentence, Verdict, Versions};
 use crate::graph::{ConflictCause, ConflictEdge, ConflictGraph, Edge, NodeIndex};
-use crate::indenter::Indenter;
+use crate::indenter::{ChildOrder, Indenter};
 use crate::installability::{installable, missing};
 use crate::merge::MergedConflictNode;
 use crate::sink::LineSink;
-use crate::tree::{Findings, order_before};
+use crate::tree::{Findings, add_line, order_before};
 use crate::walk::post_order;
 use indexmap::IndexSet;
 use resolvo_pool_core::id::Exact;
@@ -134,13 +134,53 @@ fn write_merged<S: Copy + Exact + Hash, L: LineSink<S>>(
     ensures refusal { IsOkUnless result Memory }
 {
     let order = post_order(alloc, graph)?;
-    let missing = missing(alloc, graph, &order)?;
+    // split for the prover: one drop
+    let done = write_along(alloc, graph, merged, order.as_slice(), sink);
+    done
+}
+
+/// Writes the lines of the message of a graph with these merged versions, along this walk.
+fn write_along<S: Copy + Exact + Hash, L: LineSink<S>>(
+    alloc: Global,
+    graph: &ConflictGraph<S>,
+    merged: &HashMap<S, Rc<MergedConflictNode<S>>>,
+    order: &[NodeIndex],
+    sink: &mut L,
+) -> R<()>
+    ensures lines { OnOk result
+        ((lines : List (MessageLine S))
+        × AreLinesAlong S.eq (merged_with S.eq merged.now) graph.now order.now lines
+        × Adds L.took sink.old lines sink.new) }
+    ensures refusal { IsOkUnless result Memory }
+{
+    let missing = missing(alloc, graph, order)?;
+    // split for the prover: one drop
+    let done = write_found(alloc, graph, merged, order, &missing, sink);
+    done
+}
+
+/// Writes these lines, where these nodes miss a candidate.
+fn write_found<S: Copy + Exact + Hash, L: LineSink<S>>(
+    alloc: Global,
+    graph: &ConflictGraph<S>,
+    merged: &HashMap<S, Rc<MergedConflictNode<S>>>,
+    order: &[NodeIndex],
+    missing: &IndexSet<NodeIndex>,
+    sink: &mut L,
+) -> R<()>
+    ensures lines { OnOk result
+        ((lines : List (MessageLine S))
+        × ArePartsAlong S.eq (merged_with S.eq merged.now) graph.now order.now
+        missing.now.keys lines
+        × Adds L.took sink.old lines sink.new) }
+    ensures refusal { IsOkUnless result Memory }
+{
     let findings = Findings {
         graph,
-        installable: installable(alloc, graph, &order)?,
+        installable: installable(alloc, graph, order)?,
         merged,
     };
-    findings.message(alloc, &missing, sink)
+    findings.message(alloc, missing, sink)
 }
 
 impl<S: Copy + Exact + Hash> Findings<'_, S> {
@@ -159,9 +199,28 @@ impl<S: Copy + Exact + Hash> Findings<'_, S> {
         ensures refusal { IsOkUnless result Memory }
     {
         let edges = self.graph.list_edges(alloc, self.graph.root_node())?;
-        let (without, others) = partition(alloc, &edges, missing)?;
+        // split for the prover: one drop
+        let done = self.both_parts(alloc, &edges, missing, sink);
+        done
+    }
+
+    /// Writes both parts of the message, of these edges of the root.
+    fn both_parts<L: LineSink<S>>(
+        &self,
+        alloc: Global,
+        edges: &[Edge<S>],
+        missing: &IndexSet<NodeIndex>,
+        sink: &mut L,
+    ) -> R<()>
+        ensures lines { OnOk result
+            ((lines : List (MessageLine S))
+            × AreParts (findings S.eq self.now) missing.now.keys edges.now lines
+            × Adds L.took sink.old lines sink.new) }
+        ensures refusal { IsOkUnless result Memory }
+    {
+        let (without, others) = partition(alloc, edges, missing)?;
         self.tree(alloc, &without, false, sink)?;
-        self.second_part(alloc, &others, &edges, sink)
+        self.second_part(alloc, &others, edges, sink)
     }
 
     /// Writes the second part of the message: the tree of these edges of the root, and the
@@ -182,16 +241,32 @@ impl<S: Copy + Exact + Hash> Findings<'_, S> {
         if others.is_empty() {
             return Ok(());
         }
-        let mut lines = Vec::new(alloc);
-        lines.push(MessageLine {
-            indenter: Indenter::new(alloc, true),
-            sentence: Sentence::Incompatible,
-        })?;
-        sink.take(&mut lines)?;
+        take_heading(alloc, sink)?;
         self.tree(alloc, others, true, sink)?;
-        let mut conflicts = conflict_lines(alloc, edges)?;
-        sink.take(&mut conflicts)
+        take_conflicts(alloc, edges, sink)
     }
+}
+
+/// Writes the heading of the second part.
+fn take_heading<S: Copy, L: LineSink<S>>(alloc: Global, sink: &mut L) -> R<()>
+    ensures took { OnOk result (Adds L.took sink.old (heading ∷ []) sink.new) }
+    ensures refusal { IsOkUnless result Memory }
+{
+    let mut lines = Vec::new(alloc);
+    lines.push(MessageLine {
+        indenter: Indenter::new(alloc, true),
+        sentence: Sentence::Incompatible,
+    })?;
+    sink.take(&mut lines)
+}
+
+/// Writes the lines of the root's own conflicts.
+fn take_conflicts<S: Copy, L: LineSink<S>>(alloc: Global, edges: &[Edge<S>], sink: &mut L) -> R<()>
+    ensures took { OnOk result (Adds L.took sink.old (conflict_lines edges.now) sink.new) }
+    ensures refusal { IsOkUnless result Memory }
+{
+    let mut lines = conflict_lines(alloc, edges)?;
+    sink.take(&mut lines)
 }
 
 /// The edges whose targets miss a candidate, and the others.
@@ -207,13 +282,32 @@ fn partition<S: Copy>(
     let mut without = Vec::new(alloc);
     let mut others = Vec::new(alloc);
     for edge in edges {
-        if missing.contains(&edge.target) {
-            without.push(*edge)?;
-        } else {
-            others.push(*edge)?;
-        }
+        add_edge(*edge, missing, &mut without, &mut others)?;
     }
     Ok((without, others))
+}
+
+/// Adds an edge to those whose targets miss a candidate, or to the others.
+fn add_edge<S: Copy>(
+    edge: Edge<S>,
+    missing: &IndexSet<NodeIndex>,
+    without: &mut Vec<Edge<S>>,
+    others: &mut Vec<Edge<S>>,
+) -> R<()>
+    ensures missing { OnOk result
+        (without.new.items
+        ≡ without.old.items ++ cond (misses missing.now.keys edge) (edge ∷ []) []) }
+    ensures others { OnOk result
+        (others.new.items
+        ≡ others.old.items ++ cond (fits missing.now.keys edge) (edge ∷ []) []) }
+    ensures refusal { IsOkUnless result Memory }
+{
+    if missing.contains(&edge.target) {
+        without.push(edge)?;
+    } else {
+        others.push(edge)?;
+    }
+    Ok(())
 }
 
 /// The lines of the root's own conflicts.
@@ -224,40 +318,50 @@ fn conflict_lines<S: Copy>(alloc: Global, edges: &[Edge<S>]) -> R<Vec<MessageLin
     let mut lines = Vec::new(alloc);
     let mut rest = edges;
     while let Some((edge, below)) = rest.split_first() {
-        let top = Indenter::new(alloc, true);
-        let indenter = top.push_level(alloc, order_before(below))?;
-        write_conflict(alloc, edge.weight, indenter, &mut lines)?;
+        add_conflict(alloc, edge.weight, order_before(below), &mut lines)?;
         rest = below;
     }
     Ok(lines)
 }
 
-/// Writes a conflict of the root itself: a constraint, or a lock.
-fn write_conflict<S: Copy>(
+/// Adds the line of a conflict of the root itself, if it has one.
+fn add_conflict<S: Copy>(
     alloc: Global,
     weight: ConflictEdge<S>,
-    indenter: Indenter,
+    order: ChildOrder,
     lines: &mut Vec<MessageLine<S>>,
 ) -> R<()>
     ensures line { OnOk result
-        (lines.new.items ≡ lines.old.items ++ conflict_line weight indenter) }
+        (lines.new.items
+        ≡ lines.old.items ++ conflict_line weight
+        (record { levels = order ∷ []; top_level_indent = true })) }
+    ensures refusal { IsOkUnless result Memory }
+{
+    match conflict_sentence(alloc, weight)? {
+        None => Ok(()),
+        Some(sentence) => {
+            let top = Indenter::new(alloc, true);
+            add_line(alloc, &top, order, sentence, lines)
+        }
+    }
+}
+
+/// The sentence on a conflict of the root itself: a constraint, or a lock.
+fn conflict_sentence<S: Copy>(alloc: Global, weight: ConflictEdge<S>) -> R<Option<Sentence<S>>>
+    ensures sentence { IfOk result (λ s. s ≡ conflict_sentence weight) }
     ensures refusal { IsOkUnless result Memory }
 {
     match weight {
         ConflictEdge::Conflict(ConflictCause::Locked(version)) => {
-            let mut ids = Vec::new(alloc);
-            ids.push(version)?;
-            let sentence = Sentence::Versions(Versions::new(ids), Verdict::Locked);
-            lines.push(MessageLine { indenter, sentence })?;
+            let versions = Versions::one(alloc, version)?;
+            Ok(Some(Sentence::Versions(versions, Verdict::Locked)))
         }
         ConflictEdge::Conflict(ConflictCause::Constrains(version_set)) => {
-            let sentence = Sentence::Constraint(version_set);
-            lines.push(MessageLine { indenter, sentence })?;
+            Ok(Some(Sentence::Constraint(version_set)))
         }
         ConflictEdge::Requires(_)
         | ConflictEdge::Conflict(
             ConflictCause::ForbidMultipleInstances | ConflictCause::Excluded,
-        ) => {}
+        ) => Ok(None),
     }
-    Ok(())
 }

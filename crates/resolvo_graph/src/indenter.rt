@@ -135,7 +135,6 @@ fn write_sixteens<W: fmt::Write>(
 }
 
 /// Writes the signs of some levels above a line, one by one.
-#[tactic(auto, using(crate::proofs::IndentLemmas::one_sign_more))]
 fn write_rest<W: fmt::Write>(order: ChildOrder, count: u8, f: &mut fmt::Formatter<W>) -> fmt::Result
     ensures { WritesOnOk W.write_str_gives f.old result
         (flat_map sign_above (replicate count order))

@@ -3,7 +3,7 @@
 //! each with its requirement. Versions of one number are merged.
 ghost use Rattle.std.specs.Prelude.{◌≡◌, ℕ, ◌<◌, ◌==◌, ◌++◌, ◌∷◌, [], IfOk, OnOk, Some, cond, length, map, nat_lt, ◌&&◌, vec_len, IsOkUnless};
 ghost use Rattle.resolvo_pool_core.specs.declared.want.Want.TheVariants.{Memory};
-ghost use Rattle.resolvo_graph.specs.Merge.{before, after, IsInOrder, IsProfile, AreProfiles, AreMembers, numbered, group_among, solvable_of, IsMerged};
+ghost use Rattle.resolvo_graph.specs.Merge.{before, after, IsInOrder, IsProfile, AreProfiles, AreMembers, numbered, group_among, group_in, solvable_of, IsMerged};
 ghost use Rattle.resolvo_graph.specs.Graph.{requirement_of};
 ghost use Rattle.resolvo_graph.specs.Kept.{merged_with, ids_at};
 
@@ -89,10 +89,25 @@ impl<S: SolverId> ConflictGraph<S> {
             (merged_with S.eq m)) }
         ensures refusal { IsOkUnless result Memory }
     {
-        let members = members(alloc, profiles(alloc, self, interner)?)?;
-        let groups = shared(alloc, groups(alloc, &members)?)?;
-        merged(alloc, &members, &groups)
+        let profiles = profiles(alloc, self, interner)?;
+        merge(alloc, profiles)
     }
+}
+
+/// The groups of merged versions of some profiles, by each of their versions.
+fn merge<N: Copy + Exact + Hash, S: Copy + Exact + Hash>(
+    alloc: Global,
+    profiles: Vec<Profile<N, S>>,
+) -> R<HashMap<S, Rc<MergedConflictNode<S>>>>
+    ensures merged { IfOk result
+        (λ m.
+        (s : S)
+        → merged_with S.eq m s ≡ group_in N.eq S.eq profiles.items profiles.items s) }
+    ensures refusal { IsOkUnless result Memory }
+{
+    let members = members(alloc, profiles)?;
+    let groups = shared(alloc, groups(alloc, &members)?)?;
+    merged(alloc, &members, &groups)
 }
 
 /// The versions with their numbers. Merged versions share one number.
@@ -237,28 +252,28 @@ fn profiles<S: SolverId, I: Interner<SolvableId = S>>(
     let mut found = Vec::new(alloc);
     for (index, node) in graph.nodes().iter().enumerate() {
         if let Some(solvable) = node.solvable() {
-            found.push(profile_of(alloc, graph, interner, NodeIndex(index), solvable)?)?;
+            let name = interner.solvable_name(solvable);
+            found.push(profile_of(alloc, graph, NodeIndex(index), solvable, name)?)?;
         }
     }
     Ok(found)
 }
 
-/// The profile of a version.
-fn profile_of<S: SolverId, I: Interner<SolvableId = S>>(
+/// The profile of a version with its package.
+fn profile_of<N: Copy, S: Copy + Exact + Hash>(
     alloc: Global,
     graph: &ConflictGraph<S>,
-    interner: &I,
     node: NodeIndex,
     solvable: S,
-) -> R<Profile<I::NameId, S>>
-    ensures profile { IfOk result
-        (IsProfile graph.now (I.name_of_solvable interner.now) (node, solvable)) }
+    name: N,
+) -> R<Profile<N, S>>
+    ensures profile { IfOk result (IsProfile graph.now (λ s. name) (node, solvable)) }
     ensures refusal { IsOkUnless result Memory }
 {
     Ok(Profile {
         solvable,
         likeness: Likeness {
-            name: interner.solvable_name(solvable),
+            name,
             before: neighbours_before(alloc, graph, node)?,
             after: neighbours_after(alloc, graph, node)?,
         },

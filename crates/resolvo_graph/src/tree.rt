@@ -2,7 +2,7 @@
 //! requirements. The entries that are left to write are a stack; an entry pushes those one level
 //! below it. An entry has the versions above it, and a version below itself is skipped, so a tree
 //! ends on graphs with cycles.
-ghost use Rattle.std.specs.Prelude.{◌≡◌, ◌++◌, ◌∷◌, [], List, IfOk, OnOk, cond, filter, reverse, unwrap_or, slice_get, IsOkUnless};
+ghost use Rattle.std.specs.Prelude.{◌≡◌, ◌++◌, ◌∷◌, [], List, IfOk, OnOk, cond, not, filter, reverse, unwrap_or, slice_get, IsOkUnless};
 ghost use Rattle.std.specs.List.{list_any, dedup};
 ghost use Rattle.resolvo_pool_core.specs.declared.want.Want.TheVariants.{Memory};
 ghost use Rattle.resolvo_graph.specs.declared.display_line.MessageLine.{MessageLine};
@@ -10,6 +10,7 @@ ghost use Rattle.resolvo_graph.specs.declared.tree.DisplayOp.{DisplayOp};
 ghost use Rattle.resolvo_graph.specs.Graph.{edges_of, is_forbidden};
 ghost use Rattle.resolvo_graph.specs.Indent.{level_below};
 ghost use Rattle.resolvo_graph.specs.Kept.{findings, merged_with};
+ghost use Rattle.resolvo_graph.specs.Outlook.{has_target_in};
 ghost use Rattle.resolvo_graph.specs.Sink.{Adds};
 ghost use Rattle.resolvo_graph.specs.Walk.{is_among};
 ghost use Rattle.resolvo_graph.specs.Runs.{runs_of};
@@ -279,7 +280,7 @@ impl<S: Copy + Exact + Hash> Findings<'_, S> {
             (verdict_in self.now.graph.now edges.now) edges.now)))) }
         ensures refusal { IsOkUnless result Memory }
     {
-        let needs = self.needs(alloc, self.verdict(edges), edges)?;
+        let needs = self.needs(alloc, verdict(self.graph, edges), edges)?;
         place(alloc, needs, indenter, &above.with(alloc, node)?, stack)
     }
 
@@ -298,7 +299,7 @@ impl<S: Copy + Exact + Hash> Findings<'_, S> {
             ++ lines_with (findings S.eq self.now) version edges.now indenter) }
         ensures refusal { IsOkUnless result Memory }
     {
-        let verdict = self.verdict(edges);
+        let verdict = verdict(self.graph, edges);
         let mut further = further_lines(alloc, verdict, &indenter, edges)?;
         lines.push(MessageLine {
             indenter,
@@ -312,22 +313,12 @@ impl<S: Copy + Exact + Hash> Findings<'_, S> {
     fn outlook(&self, run: &Run) -> Outlook
         ensures { result ≡ outlook_of (findings S.eq self.now) run.now }
     {
-        if self.is_missing(run.targets()) {
+        if is_missing(self.graph, run.targets()) {
             Outlook::Missing
         } else if has_some(run, &self.installable) {
             Outlook::Installable
         } else {
             Outlook::Hopeless
-        }
-    }
-
-    /// Whether these are the unresolved node alone.
-    fn is_missing(&self, targets: &[NodeIndex]) -> bool
-        ensures { result ≡ is_missing self.now.graph.now targets.now }
-    {
-        match targets {
-            [target] => self.graph.is_unresolved(*target),
-            _ => false,
         }
     }
 
@@ -343,50 +334,24 @@ impl<S: Copy + Exact + Hash> Findings<'_, S> {
         match outlook {
             Outlook::Missing => Ok(Vec::new(alloc)),
             Outlook::Installable => {
-                let targets = self.installable_targets(alloc, run)?;
-                self.firsts(alloc, &self.candidates(alloc, &targets)?)
+                let targets = installable_targets(alloc, run, &self.installable)?;
+                self.firsts_among(alloc, &targets)
             }
-            Outlook::Hopeless => self.firsts(alloc, &self.candidates(alloc, run.targets())?),
+            Outlook::Hopeless => self.firsts_among(alloc, run.targets()),
         }
     }
 
-    /// The targets of a run that can be installed.
-    fn installable_targets(&self, alloc: Global, run: &Run) -> R<Vec<NodeIndex>>
-        ensures targets { IfOk result (λ v. v.items ≡ filter (is_among self.now.installable.keys)
-            run.now.targets) }
+    /// The versions among some nodes, of merged ones only the first.
+    fn firsts_among(&self, alloc: Global, nodes: &[NodeIndex]) -> R<Vec<DisplayOp<S>>>
+        ensures firsts { IfOk result
+            (λ v.
+            v.items
+            ≡ firsts_after (findings S.eq self.now) []
+            (candidates_at self.now.graph.now nodes.now)) }
         ensures refusal { IsOkUnless result Memory }
     {
-        let mut found = Vec::new(alloc);
-        for target in run.targets() {
-            if self.installable.contains(target) {
-                found.push(*target)?;
-            }
-        }
-        Ok(found)
-    }
-
-    /// The versions among some nodes.
-    fn candidates(&self, alloc: Global, nodes: &[NodeIndex]) -> R<Vec<(NodeIndex, S)>>
-        ensures versions { IfOk result (λ v. v.items ≡ candidates_at self.now.graph.now nodes.now) }
-        ensures refusal { IsOkUnless result Memory }
-    {
-        let mut found = Vec::new(alloc);
-        for node in nodes {
-            if let Some(version) = self.version(*node) {
-                found.push((*node, version))?;
-            }
-        }
-        Ok(found)
-    }
-
-    /// The version of a node, if it has one.
-    fn version(&self, node: NodeIndex) -> Option<S>
-        ensures { result ≡ solvable_at_node (slice_get self.now.graph.now.nodes node.0) }
-    {
-        match self.graph.node(node) {
-            Some(node) => node.solvable(),
-            None => None,
-        }
+        let candidates = candidates(alloc, self.graph, nodes)?;
+        self.firsts(alloc, &candidates)
     }
 
     /// The versions, of merged ones only the first.
@@ -455,40 +420,7 @@ impl<S: Copy + Exact + Hash> Findings<'_, S> {
         if let Some(group) = self.merged.get(&version) {
             return Ok(Versions::new(Vec::from_slice(alloc, group.ids.as_slice())?));
         }
-        let mut ids = Vec::new(alloc);
-        ids.push(version)?;
-        Ok(Versions::new(ids))
-    }
-
-    /// The verdict on a version with these edges.
-    fn verdict(&self, edges: &[Edge<S>]) -> Verdict
-        ensures { result ≡ verdict_in self.now.graph.now edges.now }
-    {
-        if let Some(reason) = self.reason(edges) {
-            Verdict::Excluded(reason)
-        } else if edges.is_empty() {
-            Verdict::Alone
-        } else if has_forbidden(edges) {
-            Verdict::Conflicts
-        } else if has_admitted(edges) {
-            Verdict::Constrains
-        } else {
-            Verdict::Requires
-        }
-    }
-
-    /// The reason of the first exclusion among these edges.
-    fn reason(&self, edges: &[Edge<S>]) -> Option<StringId>
-        ensures { result ≡ reason_in self.now.graph.now edges.now }
-    {
-        for edge in edges {
-            if edge.weight.is_exclusion() {
-                if let Some(ConflictNode::Excluded(reason)) = self.graph.node(edge.target) {
-                    return Some(reason);
-                }
-            }
-        }
-        None
+        Versions::one(alloc, version)
     }
 
     /// The runs below a version with this verdict and these edges.
@@ -512,15 +444,124 @@ impl<S: Copy + Exact + Hash> Findings<'_, S> {
         let mut ranked = Vec::new(alloc);
         let mut installable = Vec::new(alloc);
         for run in runs {
-            if has_some(&run, &self.installable) {
-                installable.push(DisplayOp::Requirement(run))?;
-            } else {
-                ranked.push(DisplayOp::Requirement(run))?;
-            }
+            add_run(run, &self.installable, &mut ranked, &mut installable)?;
         }
         ranked.append(&mut installable)?;
         Ok(ranked)
     }
+}
+
+/// Whether these are the unresolved node alone.
+fn is_missing<S: Copy + Exact + Hash>(graph: &ConflictGraph<S>, targets: &[NodeIndex]) -> bool
+    ensures { result ≡ is_missing graph.now targets.now }
+{
+    match targets {
+        [target] => graph.is_unresolved(*target),
+        _ => false,
+    }
+}
+
+/// The targets of a run that can be installed.
+fn installable_targets(
+    alloc: Global,
+    run: &Run,
+    installable: &IndexSet<NodeIndex>,
+) -> R<Vec<NodeIndex>>
+    ensures targets { IfOk result (λ v. v.items ≡ filter (is_among installable.now.keys)
+        run.now.targets) }
+    ensures refusal { IsOkUnless result Memory }
+{
+    let mut found = Vec::new(alloc);
+    for target in run.targets() {
+        if installable.contains(target) {
+            found.push(*target)?;
+        }
+    }
+    Ok(found)
+}
+
+/// The versions among some nodes.
+fn candidates<S: Copy + Exact + Hash>(
+    alloc: Global,
+    graph: &ConflictGraph<S>,
+    nodes: &[NodeIndex],
+) -> R<Vec<(NodeIndex, S)>>
+    ensures versions { IfOk result (λ v. v.items ≡ candidates_at graph.now nodes.now) }
+    ensures refusal { IsOkUnless result Memory }
+{
+    let mut found = Vec::new(alloc);
+    for node in nodes {
+        if let Some(version) = version_at(graph, *node) {
+            found.push((*node, version))?;
+        }
+    }
+    Ok(found)
+}
+
+/// The version of a node, if it has one.
+fn version_at<S: Copy + Exact + Hash>(graph: &ConflictGraph<S>, node: NodeIndex) -> Option<S>
+    ensures { result ≡ solvable_at_node (slice_get graph.now.nodes node.0) }
+{
+    match graph.node(node) {
+        Some(node) => node.solvable(),
+        None => None,
+    }
+}
+
+/// The verdict on a version with these edges.
+fn verdict<S: Copy + Exact + Hash>(graph: &ConflictGraph<S>, edges: &[Edge<S>]) -> Verdict
+    ensures { result ≡ verdict_in graph.now edges.now }
+{
+    if let Some(reason) = reason(graph, edges) {
+        Verdict::Excluded(reason)
+    } else if edges.is_empty() {
+        Verdict::Alone
+    } else if has_forbidden(edges) {
+        Verdict::Conflicts
+    } else if has_admitted(edges) {
+        Verdict::Constrains
+    } else {
+        Verdict::Requires
+    }
+}
+
+/// The reason of the first exclusion among these edges.
+fn reason<S: Copy + Exact + Hash>(graph: &ConflictGraph<S>, edges: &[Edge<S>]) -> Option<StringId>
+    ensures { result ≡ reason_in graph.now edges.now }
+{
+    for edge in edges {
+        if edge.weight.is_exclusion() {
+            if let Some(ConflictNode::Excluded(reason)) = graph.node(edge.target) {
+                return Some(reason);
+            }
+        }
+    }
+    None
+}
+
+/// Adds a run to those with a marked target, or to the others.
+fn add_run<S: Copy>(
+    run: Run,
+    marked: &IndexSet<NodeIndex>,
+    others: &mut Vec<DisplayOp<S>>,
+    with_marked: &mut Vec<DisplayOp<S>>,
+) -> R<()>
+    ensures others { OnOk result
+        (others.new.items
+        ≡ others.old.items
+        ++ cond (not (has_target_in marked.now.keys run)) (DisplayOp.Requirement run ∷ []) []) }
+    ensures marked { OnOk result
+        (with_marked.new.items
+        ≡ with_marked.old.items
+        ++ cond (has_target_in marked.now.keys run) (DisplayOp.Requirement run ∷ []) []) }
+    ensures refusal { IsOkUnless result Memory }
+{
+    if has_some(&run, marked) {
+        with_marked.push(DisplayOp::Requirement(run))?;
+    } else {
+        others.push(DisplayOp::Requirement(run))?;
+    }
+    Ok(())
 }
 
 /// Pushes siblings one level below an indent, so that the first is written last.
@@ -629,13 +670,30 @@ fn admitted_lines<S: Copy>(
     let mut lines = Vec::new(alloc);
     let mut rest = version_sets;
     while let Some((version_set, below)) = rest.split_first() {
-        lines.push(MessageLine {
-            indenter: indenter.push_level(alloc, order_before(below))?,
-            sentence: Sentence::Admitted(*version_set),
-        })?;
+        let sentence = Sentence::Admitted(*version_set);
+        add_line(alloc, indenter, order_before(below), sentence, &mut lines)?;
         rest = below;
     }
     Ok(lines)
+}
+
+/// Adds a line with this sentence, one level below an indent.
+pub(crate) fn add_line<S: Copy>(
+    alloc: Global,
+    indenter: &Indenter,
+    order: ChildOrder,
+    sentence: Sentence<S>,
+    lines: &mut Vec<MessageLine<S>>,
+) -> R<()>
+    ensures line { OnOk result
+        (lines.new.items
+        ≡ lines.old.items
+        ++ record { indenter = level_below indenter.now order; sentence = sentence } ∷ []) }
+    ensures refusal { IsOkUnless result Memory }
+{
+    let indenter = indenter.push_level(alloc, order)?;
+    lines.push(MessageLine { indenter, sentence })?;
+    Ok(())
 }
 
 /// Whether an entry with these siblings below it is the last one.

@@ -1,9 +1,7 @@
-use Rattle.std.proofs.Common.{◌∙◌, ap, sym}
-use Rattle.std.specs.Prelude.{not}
 use Rattle.resolvo_graph.specs.Message.{misses, fits}
-use Rattle.resolvo_graph.proofs.ListLemmas.{filter_more, filter_same}
+use Rattle.resolvo_graph.proofs.ListLemmas.{filter_put, whole}
+use Rattle.std.proofs.Common.{refl, filter}
 use Rattle.resolvo_graph.proofs.display_unsat.partition.Goals as goal
-use Rattle.resolvo_graph.proofs.display_unsat.partition.Goals.{then-contains+in_ok-push, else-contains+in_ok-push-2}
 
 pub loop-edge-preserved : goal.loop-edge-preserved
 loop-edge-preserved g c =
@@ -11,17 +9,13 @@ loop-edge-preserved g c =
     let i = c.loop-edge.edge-index in
     let e = c.edge-item.result in
     let keys = c.args.missing.now.keys in
-    elim c.if-contains.branch [
-      | then-contains+in_ok-push w ↦
-          let is = sym c.contains.ensures ∙ w.if-contains.true in
-          record {
-            missing = filter_more es i e e c.loop-edge-test.true c.edge-item.is (misses keys) c.loop-edge.without.items c.if-contains.without.items c.loop-edge.invariant.missing is (ap (λ v. v.items) w.without-is ∙ w.in_ok-push.ensures.items);
-            others = filter_same es i e e c.loop-edge-test.true c.edge-item.is (fits keys) c.loop-edge.others.items c.if-contains.others.items c.loop-edge.invariant.others (ap not is) (ap (λ v. v.items) w.others-is);
-          }
-      | else-contains+in_ok-push-2 w ↦
-          let is = sym c.contains.ensures ∙ w.if-contains.false in
-          record {
-            missing = filter_same es i e e c.loop-edge-test.true c.edge-item.is (misses keys) c.loop-edge.without.items c.if-contains.without.items c.loop-edge.invariant.missing is (ap (λ v. v.items) w.without-is);
-            others = filter_more es i e e c.loop-edge-test.true c.edge-item.is (fits keys) c.loop-edge.others.items c.if-contains.others.items c.loop-edge.invariant.others (ap not is) (ap (λ v. v.items) w.others-is ∙ w.in_ok-push-2.ensures.items);
-          }
-    ]
+    record {
+      missing = filter_put es i e e c.loop-edge-test.true c.edge-item.is (misses keys) c.loop-edge.without.items c.add_edge.new.without.items c.loop-edge.invariant.missing c.in_ok-add_edge.ensures.missing;
+      others = filter_put es i e e c.loop-edge-test.true c.edge-item.is (fits keys) c.loop-edge.others.items c.add_edge.new.others.items c.loop-edge.invariant.others c.in_ok-add_edge.ensures.others;
+    }
+
+pub returns-clause-missing : goal.returns-clause-missing
+returns-clause-missing g c = whole (filter (misses c.args.missing.now.keys)) c.args.edges.now c.args.edges.now c.loop-edge.edge-index c.loop-edge.without.items c.loop-edge-test.false refl c.loop-edge.invariant.missing
+
+pub returns-clause-others : goal.returns-clause-others
+returns-clause-others g c = whole (filter (fits c.args.missing.now.keys)) c.args.edges.now c.args.edges.now c.loop-edge.edge-index c.loop-edge.others.items c.loop-edge-test.false refl c.loop-edge.invariant.others

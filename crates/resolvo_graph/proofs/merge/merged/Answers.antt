@@ -5,7 +5,7 @@ use Rattle.resolvo_graph.specs.declared.merge.Member.{Member}
 use Rattle.resolvo_graph.specs.Kept.{merged_with, ids_at}
 use Rattle.resolvo_graph.specs.Merge.{together, group_among}
 use Rattle.resolvo_graph.proofs.ListLemmas.{left}
-use Rattle.resolvo_graph.proofs.MergeLemmas.{and_false, kept_one, ids_found, ids_past}
+use Rattle.resolvo_graph.proofs.MergeLemmas.{and_false, kept_one, ids_found, ids_past, dropped}
 use Rattle.resolvo_graph.proofs.merge.merged.Goals as goal
 use Rattle.resolvo_graph.proofs.merge.merged.Goals.{in-Some+in_ok-keep, in_default}
 
@@ -31,3 +31,8 @@ loop-member-preserved g c = λ s.
           kept_one _ (among (drop (i + 1) ms)) old (merged_with eq c.match-get.merged s) (eq m.solvable s && nat_lt 1 (length (ids m.group))) (ids m.group) from
           (ap (λ n. merged_with eq n s) w.merged-is ∙ ap (λ b. cond b (Some (ids m.group)) old) (sym alone))
     ]
+
+pub returns-clause-merged : goal.returns-clause-merged
+returns-clause-merged g c = λ s.
+    let ids = ids_at (map (λ r. r.value) c.args.groups.now) in
+    sym (c.loop-member.invariant s ∙ ap (λ ms. option_or (group_among g.S.PartialEq.eq ids ms s) (merged_with g.S.PartialEq.eq c.loop-member.merged s)) (dropped c.args.members.now c.loop-member.member-index c.loop-member-test.false))

@@ -1,7 +1,8 @@
-use Rattle.std.proofs.Common.{◌≡◌, ◌++◌, ◌+◌, ◌∷◌, [], take, sym, ap, ◌∙◌}
+use Rattle.std.proofs.Common.{◌≡◌, ◌++◌, ◌+◌, ◌∷◌, [], take, sym, ap, ◌∙◌, refl}
 use Rattle.std.proofs.lemmas.List.{take_more}
 use Rattle.resolvo_graph.specs.Runs.{runs_of, with_last}
 use Rattle.resolvo_graph.proofs.RunLemmas.{runs_of-last, with_last_edge}
+use Rattle.resolvo_graph.proofs.ListLemmas.{whole}
 use Rattle.resolvo_graph.proofs.runs.runs.Goals as goal
 use Rattle.resolvo_graph.proofs.runs.runs.Goals.{in-Some+in_ok-add_target, in_default}
 
@@ -16,3 +17,6 @@ loop-edge-preserved g c =
       | in-Some+in_ok-add_target w ↦ ap (λ v. v.items) w.found-is ∙ w.in_ok-add_target.ensures.put ∙ ap (λ rs. with_last rs w.in-Some.requirement e.target) c.loop-edge.invariant ∙ ap (λ o. with_last_edge (runs_of (take i c.args.edges.now)) o e.target) (sym w.in-Some.is) ∙ sym more
       | in_default w ↦ ap (λ v. v.items) w.found-is ∙ c.loop-edge.invariant ∙ ap (λ o. with_last_edge (runs_of (take i c.args.edges.now)) o e.target) (sym w.in_default.is) ∙ sym more
     ]
+
+pub returns-clause-runs : goal.returns-clause-runs
+returns-clause-runs g c = whole runs_of c.args.edges.now c.args.edges.now c.loop-edge.edge-index c.loop-edge.found.items c.loop-edge-test.false refl c.loop-edge.invariant

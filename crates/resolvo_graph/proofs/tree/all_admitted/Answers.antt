@@ -1,8 +1,9 @@
-use Rattle.std.proofs.Common.{◌≡◌, ◌+◌, ◌++◌, ◌∷◌, [], ◌∙◌, ap, sym, take}
+use Rattle.std.proofs.Common.{◌≡◌, ◌+◌, ◌++◌, ◌∷◌, [], ◌∙◌, ap, sym, take, refl}
 use Rattle.std.proofs.lemmas.List.{take_more, append-nil}
 use Rattle.resolvo_graph.specs.Graph.{admitted_by}
 use Rattle.resolvo_graph.specs.Tree.{admitted_in, with_set}
 use Rattle.resolvo_graph.proofs.TreeLemmas.{admitted_in_push}
+use Rattle.resolvo_graph.proofs.ListLemmas.{whole}
 use Rattle.resolvo_graph.proofs.tree.all_admitted.Goals as goal
 use Rattle.resolvo_graph.proofs.tree.all_admitted.Goals.{in-Some+in_ok-push, in_default}
 
@@ -17,3 +18,6 @@ loop-edge-preserved g c =
       | in-Some+in_ok-push w ↦ ap (λ v. v.items) w.found-is ∙ w.in_ok-push.ensures.items ∙ ap (λ xs. xs ++ w.in-Some.version_set ∷ []) c.loop-edge.invariant ∙ ap (λ o. admitted_in es ++ with_set o []) (sym w.in-Some.is ∙ c.admitted.ensures) ∙ sym more
       | in_default w ↦ ap (λ v. v.items) w.found-is ∙ c.loop-edge.invariant ∙ sym (append-nil (admitted_in es)) ∙ ap (λ o. admitted_in es ++ with_set o []) (sym w.in_default.is ∙ c.admitted.ensures) ∙ sym more
     ]
+
+pub returns-clause-version_sets : goal.returns-clause-version_sets
+returns-clause-version_sets g c = whole admitted_in c.args.edges.now c.args.edges.now c.loop-edge.edge-index c.loop-edge.found.items c.loop-edge-test.false refl c.loop-edge.invariant

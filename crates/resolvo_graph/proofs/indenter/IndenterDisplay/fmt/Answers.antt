@@ -1,10 +1,16 @@
-use Rattle.std.proofs.Common.{◌≡◌, ◌++◌, ◌∷◌, [], take, sym, ap, ◌∙◌, arith}
+use Rattle.std.proofs.Common.{◌≡◌, ◌++◌, ◌∷◌, [], take, refl, sym, ap, ◌∙◌, arith}
 use Rattle.std.specs.List.{flat_map}
 use Rattle.std.proofs.lemmas.Grind.{put_two}
 use Rattle.std.proofs.lemmas.List.{take_all}
 use Rattle.resolvo_graph.specs.Indent.{levels_in, signs, shown_levels, sign_above}
 use Rattle.resolvo_graph.proofs.IndentLemmas.{signs_of_stretches}
+use Rattle.resolvo_graph.proofs.ListLemmas.{flat_more}
 use Rattle.resolvo_graph.proofs.indenter.IndenterDisplay.fmt.Goals as goal
+
+pub loop-stretch-preserved : goal.loop-stretch-preserved
+loop-stretch-preserved g c plain =
+    let before = c.loop-stretch.invariant plain in
+    put_two g.W.Write.write_str_gives _ _ _ _ _ _ before (c.in_ok-write_above.ensures before.plain refl) (flat_more _ _ _ _ c.loop-stretch-test.true refl (λ s. flat_map sign_above (levels_in s)))
 
 pub returns-clause-writes : goal.returns-clause-writes
 returns-clause-writes g c plain ok =

@@ -1,4 +1,4 @@
-use Rattle.std.proofs.Common.{◌≡◌, ◌++◌, ◌∙◌, ap, refl, sym, false, filter, map}
+use Rattle.std.proofs.Common.{◌≡◌, ◌++◌, ◌∙◌, ap, filter, map}
 use Rattle.std.specs.Prelude.{not}
 use Rattle.std.proofs.lemmas.Iterator.Consumers.{YieldsList-end}
 use Rattle.std.proofs.lemmas.Iterator.Adapters.{YieldsList-from_vec}
@@ -6,7 +6,7 @@ use Rattle.resolvo_graph.specs.declared.tree.DisplayOp.TheVariants.{Requirement}
 use Rattle.resolvo_graph.specs.Kept.{findings}
 use Rattle.resolvo_graph.specs.Outlook.{has_target_in}
 use Rattle.resolvo_graph.specs.Tree.{in_rank}
-use Rattle.resolvo_graph.proofs.ListLemmas.{takes, leaves_out}
+use Rattle.resolvo_graph.proofs.ListLemmas.{puts}
 use Rattle.resolvo_graph.proofs.TreeLemmas.{all_yielded}
 use Rattle.resolvo_graph.proofs.tree.Findings.in_rank.Goals as goal
 
@@ -23,8 +23,7 @@ pub loop-run-preserved : goal.loop-run-preserved
 loop-run-preserved g c =
     let keys = c.args.self.now.installable.keys in
     let r = c.in-Some.run' in
-    let no : has_target_in keys r ≡ false = sym c.has_some.ensures ∙ c.if-has_some.false in
     record {
-      ranked = takes Requirement (λ q. not (has_target_in keys q)) c.loop-run.yielded r c.loop-run.ranked.items c.push-else-has_some.new.self.items c.loop-run.invariant.ranked (ap not no) c.in_ok-push-2.ensures.items;
-      installable = leaves_out Requirement (has_target_in keys) c.loop-run.yielded r c.loop-run.installable.items c.loop-run.installable.items c.loop-run.invariant.installable no refl;
+      ranked = puts Requirement (λ q. not (has_target_in keys q)) c.loop-run.yielded r c.loop-run.ranked.items c.add_run.new.others.items c.loop-run.invariant.ranked c.in_ok-add_run.ensures.others;
+      installable = puts Requirement (has_target_in keys) c.loop-run.yielded r c.loop-run.installable.items c.add_run.new.with_marked.items c.loop-run.invariant.installable c.in_ok-add_run.ensures.marked;
     }
