@@ -74,11 +74,6 @@ pub begin_read : (ends : List ℕ) (p begin : ℕ) → (p ≡ 0 → begin ≡ 0)
 begin_read ends zero begin first later = first refl
 begin_read ends (suc p) begin first later = (let same : suc p - 1 ≡ p = omega arith in later (omega arith) ∙ ap (λ (k : ℕ). slice_index_or ends k 0) same)
 
--- it is at most a number, if the end before it is
-pub begin_most : (ends : List ℕ) (p number : ℕ) → (0 < p → slice_index_or ends (p - 1) 0 ≤ number) → begin_at ends p ≤ number
-begin_most ends zero number later = omega arith
-begin_most ends (suc p) number later = (let same : suc p - 1 ≡ p = omega arith in subst (λ (k : ℕ). slice_index_or ends k 0 ≤ number) same (later (omega arith)))
-
 begin_low : (start : ℕ) (ends : List ℕ) (p : ℕ) → AreRising start ends → p ≤ length ends → start ≤ begin_after start ends p
 begin_low start ends zero rising low = omega arith
 begin_low start [] (suc p) rising low = absurd (omega arith)
