@@ -1,8 +1,10 @@
 //! The rules that clauses encode. A parent is a solvable, or none for the root.
+ghost use Rattle.std.specs.Prelude.{◌≡◌};
 
 use crate::case::Case;
 use resolvo_pool_core::id::{StringId, VersionSetId};
 use resolvo_pool_core::requirement::{ConditionalRequirement, Requirement};
+use std::alloc::AllocError;
 
 /// A requirement of a parent, for a case of its condition.
 #[derive(Debug, Drop)]
@@ -14,7 +16,6 @@ pub struct Need<S> {
 
 /// The rule that a clause encodes. There may be many digits, so each kind is small, and a need under
 /// a condition is named by its index.
-#[derive(Clone, Copy, Debug)]
 pub enum ClauseKind<N, S> {
     /// The root is true.
     InstallRoot,
@@ -82,6 +83,18 @@ pub enum ClauseKind<N, S> {
     /// No rule: the clause follows from its antecedents.
     Learnt,
 }
+
+impl<N: Copy, S: Copy> Clone for ClauseKind<N, S> {
+    ghost is_clone = { λ x y. y ≡ x };
+
+    ghost is_infallible = { λ _. Unit {0} };
+
+    fn clone(&self) -> Result<ClauseKind<N, S>, AllocError> {
+        Ok(*self)
+    }
+}
+
+impl<N: Copy, S: Copy> Copy for ClauseKind<N, S> {}
 
 impl<N, S> ClauseKind<N, S> {
     /// Whether a new clause of this kind sets its last literal at once: the others are false, and
