@@ -17,8 +17,8 @@ use Rattle.resolve_order.proofs.Elements.{first_element}
 use Rattle.resolvo_report.specs.Value.{Place, OfRequest, OfVersion, AnswerLine, Entry, Wished, LeftOut, Step, Install, ReportLine, InstallHead, Numbered, Answer}
 use Rattle.resolvo_report.specs.Text.{numbered, report_lines, HasText, IsAnswer, IsPlace, IsStep}
 use Rattle.resolvo_report.specs.Grammar.{part_after, may_end, IsReport}
-use Rattle.resolvo_report.specs.declared.place.Part.{Part}
-use Rattle.resolvo_report.specs.declared.place.Part.TheVariants as part
+use Rattle.resolvo_report.specs.declared.grammar.Part.{Part}
+use Rattle.resolvo_report.specs.declared.grammar.Part.TheVariants as part
 use Rattle.resolvo_checker.specs.Proof.{every_line, is_valid_step, IsProof}
 use Rattle.resolvo_judge.specs.Entries.{entries_of, answer_fits}
 use Rattle.resolvo_judge.specs.Refusal.{answer_in, step_in, answers_in, steps_in, passes, ArePassed, InstallEnds, IsAccepted}

@@ -15,8 +15,8 @@ use Rattle.resolvo_report.specs.Value.{Literal, Step, ReportLine, CatalogueLine,
 use Rattle.resolvo_report.specs.Value as in_report
 use Rattle.resolvo_report.specs.Text.{atom_text, literal_text, numbered, are_rising, are_once, is_before, IsLineNumber, IsAtom, IsStep, HasText}
 use Rattle.resolvo_report.specs.Grammar.{next_part, part_after, AreLines, IsReport}
-use Rattle.resolvo_report.specs.declared.place.Part.{Part}
-use Rattle.resolvo_report.specs.declared.place.Part.TheVariants as part
+use Rattle.resolvo_report.specs.declared.grammar.Part.{Part}
+use Rattle.resolvo_report.specs.declared.grammar.Part.TheVariants as part
 use Rattle.resolve_refusal.proofs.SortLemmas.{one_literal}
 use Rattle.resolve_refusal.proofs.AcceptLemmas.{lines_are}
 

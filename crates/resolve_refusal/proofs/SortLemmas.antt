@@ -24,7 +24,7 @@ use Rattle.resolvo_report.specs.View.{atom_of, literal_of, literals_of}
 use Rattle.resolvo_report.specs.Text.{literal_text, IsAtom}
 use Rattle.resolvo_report.specs.Text as text
 use Rattle.resolvo_report.specs.Grammar.{IsReport}
-use Rattle.resolvo_report.specs.declared.place.Part.TheVariants as part
+use Rattle.resolvo_report.specs.declared.grammar.Part.TheVariants as part
 use Rattle.resolvo_report.proofs.ReportLaws.{one_report}
 use Rattle.resolve_refusal.specs.Refusal.{atom_at, literal_at, AreLiterals, HaveForm}
 

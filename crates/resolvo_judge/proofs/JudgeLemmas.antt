@@ -15,8 +15,8 @@ use Rattle.resolvo_text.proofs.KnownBytes.{consumed}
 use Rattle.resolvo_catalogue_core.specs.Answers.{ClaimsInstall, ClaimsRefusal}
 use Rattle.resolvo_catalogue_core.specs.Listed.{listed}
 use Rattle.resolvo_terms.proofs.Places.{get_push}
-use Rattle.resolvo_report.specs.declared.place.Part.{Part}
-use Rattle.resolvo_report.specs.declared.place.Part.TheVariants as part
+use Rattle.resolvo_report.specs.declared.grammar.Part.{Part}
+use Rattle.resolvo_report.specs.declared.grammar.Part.TheVariants as part
 use Rattle.resolvo_report.specs.declared.reader.ReportReader.{ReportReader}
 use Rattle.resolvo_report.specs.declared.reader.ReportFault.{ReportFault}
 use Rattle.resolvo_report.specs.declared.reader.ReportFault.TheVariants.{NotAReport, Reader, TooLong, Memory}

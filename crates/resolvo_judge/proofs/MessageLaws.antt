@@ -10,8 +10,8 @@ use Rattle.resolvo_text.specs.Line.{Line}
 use Rattle.resolvo_report.specs.Value.{Step, ReportLine, InstallHead, RefusedHead, Answer, CatalogueLine, RequestLine, Numbered, Message, Refused}
 use Rattle.resolvo_report.specs.Text.{HasText, numbered, report_text}
 use Rattle.resolvo_report.specs.Grammar.{next_part, part_after, may_end, IsReport}
-use Rattle.resolvo_report.specs.declared.place.Part.{Part}
-use Rattle.resolvo_report.specs.declared.place.Part.TheVariants as part
+use Rattle.resolvo_report.specs.declared.grammar.Part.{Part}
+use Rattle.resolvo_report.specs.declared.grammar.Part.TheVariants as part
 use Rattle.resolvo_judge.specs.Refusal.{step_in, steps_in, passes, ArePassed, IsAccepted}
 use Rattle.resolvo_checker.specs.Proof.{ends_empty}
 use Rattle.resolvo_judge.specs.Judgement.{IsUpheld}

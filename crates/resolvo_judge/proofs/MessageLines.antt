@@ -9,8 +9,8 @@ use Rattle.resolvo_text.specs.Line.{Line}
 use Rattle.resolvo_report.specs.Value.{AnswerLine, Step, ReportLine, InstallHead, RefusedHead, Answer, CatalogueLine, RequestLine, Numbered, Message}
 use Rattle.resolvo_report.specs.Text.{line_text, lines_text, HasText}
 use Rattle.resolvo_report.specs.Grammar.{next_part, part_after}
-use Rattle.resolvo_report.specs.declared.place.Part.{Part}
-use Rattle.resolvo_report.specs.declared.place.Part.TheVariants as part
+use Rattle.resolvo_report.specs.declared.grammar.Part.{Part}
+use Rattle.resolvo_report.specs.declared.grammar.Part.TheVariants as part
 use Rattle.resolvo_report.proofs.StreamLemmas.{first_newline}
 use Rattle.resolvo_report.proofs.WholeLines.{line_has_no_newline, same_line}
 use Rattle.resolvo_checker.specs.Proof.{is_valid_step, is_named, ends_empty}

@@ -7,8 +7,8 @@ use Rattle.std.proofs.lemmas.Bool.{cases_order, cases_lt}
 use Rattle.std.proofs.lemmas.Option.{same_Some}
 use Rattle.resolvo_text.specs.Line.{Line}
 use Rattle.resolvo_text.proofs.AlternativeLemmas.{bind_some}
-use Rattle.resolvo_report.specs.declared.place.Part.{Part}
-use Rattle.resolvo_report.specs.declared.place.Part.TheVariants as part
+use Rattle.resolvo_report.specs.declared.grammar.Part.{Part}
+use Rattle.resolvo_report.specs.declared.grammar.Part.TheVariants as part
 use Rattle.resolvo_report.specs.Value.{Report, ReportLine}
 use Rattle.resolvo_report.specs.Text.{line_text, lines_text, HasText, report_lines}
 use Rattle.resolvo_report.specs.Grammar.{next_part, part_after, may_end, AreLines}

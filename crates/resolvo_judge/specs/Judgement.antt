@@ -6,7 +6,7 @@ use Rattle.resolvo_text.specs.Line.{Line}
 use Rattle.resolvo_text.specs.Lines.{newlines}
 use Rattle.resolvo_text.specs.declared.device.Source as source
 use Rattle.resolvo_catalogue_core.specs.Answers.{ClaimsInstall, ClaimsRefusal}
-use Rattle.resolvo_report.specs.declared.place.Part.{Part}
+use Rattle.resolvo_report.specs.declared.grammar.Part.{Part}
 use Rattle.resolvo_report.specs.declared.reader.ReportFault.{ReportFault}
 use Rattle.resolvo_report.specs.declared.reader.ReportFault.TheVariants as read
 use Rattle.resolvo_report.specs.Value.{Report, Install, Refused, ReportLine}

@@ -4,8 +4,8 @@ use Rattle.std.specs.Prelude.{nat_lt, ◌==◌}
 use Rattle.std.proofs.lemmas.Option.{cond_some}
 use Rattle.std.proofs.lemmas.Bool.{eqb-true}
 use Rattle.std.proofs.lemmas.List.{map-append}
-use Rattle.resolvo_report.specs.declared.place.Part.{Part}
-use Rattle.resolvo_report.specs.declared.place.Part.TheVariants as part
+use Rattle.resolvo_report.specs.declared.grammar.Part.{Part}
+use Rattle.resolvo_report.specs.declared.grammar.Part.TheVariants as part
 use Rattle.resolvo_report.specs.Value.{Step, AnswerLine, Install, Refused, ReportLine, InstallHead, RefusedHead, Answer, CatalogueLine, RequestLine, Numbered, Message}
 use Rattle.resolvo_report.specs.Text.{numbered}
 use Rattle.resolvo_report.specs.Grammar.{next_part}

@@ -5,8 +5,8 @@ use Rattle.std.specs.List.{AllByRecursion}
 use Rattle.std.specs.Option.{option_and_then}
 use Rattle.std.proofs.lemmas.Option.{same_Some}
 use Rattle.resolvo_text.proofs.AlternativeLemmas.{bind_some}
-use Rattle.resolvo_report.specs.declared.place.Part.{Part}
-use Rattle.resolvo_report.specs.declared.place.Part.TheVariants as part
+use Rattle.resolvo_report.specs.declared.grammar.Part.{Part}
+use Rattle.resolvo_report.specs.declared.grammar.Part.TheVariants as part
 use Rattle.resolvo_report.specs.Value.{Step, AnswerLine, Report, Install, Refused, ReportLine, RefusedHead, Answer, CatalogueLine, RequestLine, Numbered, Message}
 use Rattle.resolvo_report.specs.Text.{line_text, lines_text, HasText, numbered, report_lines, report_text}
 use Rattle.resolvo_report.specs.Grammar.{next_part, part_after, may_end, IsReport, GoesOn, IsOutsideAt}

@@ -12,8 +12,8 @@ use Rattle.resolvo_text.specs.Lines.{newlines}
 use Rattle.resolvo_text.specs.Reader.{EndsLine}
 use Rattle.resolvo_text.proofs.LineLemmas.{no_newline, newlines-append}
 use Rattle.resolvo_text.proofs.KnownBytes.{consumed, consumed_both}
-use Rattle.resolvo_report.specs.declared.place.Part.{Part}
-use Rattle.resolvo_report.specs.declared.place.Part.TheVariants as part
+use Rattle.resolvo_report.specs.declared.grammar.Part.{Part}
+use Rattle.resolvo_report.specs.declared.grammar.Part.TheVariants as part
 use Rattle.resolvo_report.specs.declared.reader.ReportReader.{ReportReader}
 use Rattle.resolvo_report.specs.Stream.{GivesLine, IsLineFault}
 use Rattle.resolvo_report.specs.declared.reader.ReportFault.{ReportFault}

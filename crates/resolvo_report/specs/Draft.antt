@@ -1,7 +1,7 @@
 -- A report of which the first lines are known.
 use Rattle.std.specs.Prelude.{◌≡◌, ℕ, List, [], ◌∷◌, ◌++◌, length, Some}
-use Rattle.resolvo_report.specs.declared.place.Part.{Part}
-use Rattle.resolvo_report.specs.declared.place.Part.TheVariants as part
+use Rattle.resolvo_report.specs.declared.grammar.Part.{Part}
+use Rattle.resolvo_report.specs.declared.grammar.Part.TheVariants as part
 use Rattle.resolvo_report.specs.Value.{Report, Install, Refused, ReportLine}
 use Rattle.resolvo_report.specs.Text.{report_lines}
 use Rattle.resolvo_report.specs.Grammar.{next_part}

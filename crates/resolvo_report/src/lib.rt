@@ -5,10 +5,10 @@
 #![tactic(auto)]
 
 mod answer_text;
+mod grammar;
 mod laws;
 mod parse;
 mod part;
-mod place;
 mod reader;
 mod report;
 mod step;
@@ -18,8 +18,8 @@ mod write;
 pub use answer_text::{
     VersionRef, push_left_out, push_needed, push_requested, push_steps, push_wished,
 };
+pub use grammar::Part;
 pub use laws::{reports_are_read, text_is_one_report};
-pub use place::Part;
 pub use reader::{ReportFault, ReportReader};
 pub use report::{AnswerLine, Report, ReportLine};
 pub use step::{Atom, Literal, Place, Step};

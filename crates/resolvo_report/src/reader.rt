@@ -11,8 +11,8 @@ ghost use Rattle.resolvo_report.specs.Text.{report_lines, report_text};
 ghost use Rattle.resolvo_report.specs.Grammar.{next_part, IsReport, IsReportFault};
 ghost use Rattle.resolvo_report.specs.Draft.{part_of};
 
+use crate::grammar::Part;
 use crate::parse::line_shown;
-use crate::place::Part;
 use crate::report::{Report, ReportLine};
 use resolvo_text::{LineFault, LineReader, ReadFault, Source};
 use std::alloc::{AllocError, AllocFailed, Global};
@@ -80,7 +80,7 @@ impl Drop for ReportReader {
 
 impl ReportReader {
     ghost use Rattle.resolvo_report.specs.Stream.{TakesLine, TakesShown, TakesNoLine, IsAtReportEnd};
-    ghost use Rattle.resolvo_report.specs.declared.place.Part.TheVariants as part;
+    ghost use Rattle.resolvo_report.specs.declared.grammar.Part.TheVariants as part;
     ghost use Rattle.resolvo_text.specs.Reader.{unread};
 
     pub fn new(alloc: Global) -> Result<Self, AllocError>
@@ -179,8 +179,8 @@ impl ReportReader {
 }
 
 impl Report {
-    ghost use Rattle.resolvo_report.specs.declared.place.Part.{Part};
-    ghost use Rattle.resolvo_report.specs.declared.place.Part.TheVariants as part;
+    ghost use Rattle.resolvo_report.specs.declared.grammar.Part.{Part};
+    ghost use Rattle.resolvo_report.specs.declared.grammar.Part.TheVariants as part;
     ghost use Rattle.resolvo_report.specs.Draft.{Grows};
     ghost use Rattle.resolvo_text.specs.Sources.{SourceFailed};
 

@@ -3,7 +3,7 @@ use Rattle.std.specs.Prelude.{IfSome, IfNone, IsTrue}
 use Rattle.std.specs.Io.KnownBytes.{IsAtEnd}
 use Rattle.std.proofs.lemmas.Result.{err_from_is_err_and}
 use Rattle.resolvo_report.specs.declared.report.ReportLine.{ReportLine}
-use Rattle.resolvo_report.specs.declared.place.Part.{Part}
+use Rattle.resolvo_report.specs.declared.grammar.Part.{Part}
 use Rattle.resolvo_report.specs.Value.{ReportLine as LineValue}
 use Rattle.resolvo_report.specs.View.{report_line_of}
 use Rattle.resolvo_report.specs.Text.{report_lines}

@@ -2,7 +2,7 @@ use Rattle.std.proofs.Common.{◌≡◌, ℕ, List, [], ◌∷◌, ◌++◌, Som
 use Rattle.std.proofs.lemmas.List.{map_push}
 use Rattle.resolvo_report.specs.declared.report.Report as code
 use Rattle.resolvo_report.specs.declared.report.ReportLine as code_line
-use Rattle.resolvo_report.specs.declared.place.Part.{Part}
+use Rattle.resolvo_report.specs.declared.grammar.Part.{Part}
 use Rattle.resolvo_report.specs.Value as model
 use Rattle.resolvo_report.specs.View.{report_of, report_line_of, answer_lines_of, step_of, steps_of, messages_of}
 use Rattle.resolvo_report.specs.Grammar.{next_part}

@@ -1,7 +1,7 @@
 use Rattle.std.proofs.Common.{[], Option, refl, sym, ap, subst, ◌∙◌}
 use Rattle.std.proofs.lemmas.Option.{same_Some}
 use Rattle.std.proofs.lemmas.Result.{err_from_is_err_and}
-use Rattle.resolvo_report.specs.declared.place.Part.{Part}
+use Rattle.resolvo_report.specs.declared.grammar.Part.{Part}
 use Rattle.resolvo_report.specs.View.{report_of, report_line_of}
 use Rattle.std.specs.Prelude.{IfSome}
 use Rattle.resolvo_report.specs.declared.report.ReportLine.{ReportLine}
