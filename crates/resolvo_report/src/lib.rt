@@ -8,7 +8,7 @@ mod answer_text;
 mod grammar;
 mod laws;
 mod parse;
-mod part;
+mod parse_part;
 mod reader;
 mod report;
 mod step;

@@ -14,7 +14,7 @@ ghost use Rattle.resolvo_report.specs.Shown.{Shows};
 ghost use Rattle.resolvo_report.specs.Pieces.{texts_of};
 ghost use Rattle.resolvo_report.specs.Parse.{is_semicolon, is_close, text_behind, literals_behind, pieces_in, literals_in, numbers_in, causes_in, causes_behind, derived_in, limit_in, need_in, gate_in, shared_in, outside_in, matches_in, lock_in, digit_in, any_in, definition_by, step_by, left_out_in, numbered_in, entry_in, line_by, is_message, line_read};
 
-use crate::part::{
+use crate::parse_part::{
     behind, bit_at, line_at, line_in as last_line, line_number_at, literal_behind, number_at,
     place_at, specs_at, version_at, version_in,
 };
