@@ -14,7 +14,7 @@ ghost use Rattle.resolvo_turn.specs.Effects.{RequiresGuardedCase, RequiresCase, 
 ghost use Rattle.resolvo_turn.specs.Matches.{MatchesSets, MatchesCase};
 ghost use Rattle.resolvo_turn.specs.LacksIds.{StopsAnyhow, StopsInOrder, StopsNeed};
 
-use crate::guards::guard;
+use crate::forbid::forbid_named;
 use crate::rules::add_available;
 use resolvo_encoder::conditions::{ConditionSet, keeps_out};
 use resolvo_encoder::encoder::Encoder;
@@ -142,7 +142,7 @@ fn encode_case<A: PackageSource>(
     if keeps_out(sets, parent) {
         return Ok(());
     }
-    guard(answers, encoding, need.requirement)?;
+    forbid_named(answers, encoding, need.requirement)?;
     add_case(alloc, answers, encoding, parent, need, sets)?;
     Ok(())
 }
@@ -255,7 +255,7 @@ fn encode_matches<A: PackageSource>(
     if keeps_out(sets, parent) {
         return Ok(());
     }
-    guard(answers, encoding, need.requirement)?;
+    forbid_named(answers, encoding, need.requirement)?;
     match_sets(encoding, sets)?;
     Ok(())
 }

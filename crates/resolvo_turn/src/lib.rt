@@ -8,7 +8,7 @@ pub mod chosen;
 pub mod defer_conditions;
 pub mod encode;
 pub mod fire_conditions;
-pub mod guards;
+pub mod forbid;
 pub mod named_cases;
 pub mod rules;
 pub mod scan;

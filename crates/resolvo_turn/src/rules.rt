@@ -13,7 +13,7 @@ ghost use Rattle.resolvo_turn.specs.Effects.{RequiresGuarded, RequiresPlain, Req
 ghost use Rattle.resolvo_turn.specs.LacksIds.{StopsAnyhow, StopsNeed, StopsOne, StopsAll, StopsKnown};
 
 use crate::defer_conditions::defer_need;
-use crate::guards::{guard, guard_rules};
+use crate::forbid::{forbid_for_rules, forbid_named};
 use crate::tasks::Tasks;
 use resolvo_encoder::encoder::Encoder;
 use resolvo_packages::package_source::{Offered, PackageSource};
@@ -95,7 +95,7 @@ fn encode_plain_need<A: PackageSource>(
         encoding.require_again(parent, need)?;
         return Ok(());
     }
-    guard(answers, encoding, need.requirement)?;
+    forbid_named(answers, encoding, need.requirement)?;
     require(alloc, answers, encoding, parent, need)?;
     Ok(())
 }
@@ -221,7 +221,7 @@ fn encode_limit<A: PackageSource>(
     ensures ids { IsErrOf result Ids
         → StopsAnyhow A.SolvableId.eq A.PackageSource answers.old encoding.new }
 {
-    guard(answers, encoding, Requirement::Single(version_set))?;
+    forbid_named(answers, encoding, Requirement::Single(version_set))?;
     limit(answers, encoding, parent, version_set)?;
     Ok(())
 }
@@ -309,7 +309,7 @@ pub(crate) fn encode_rules<A: PackageSource>(
         → StopsKnown A.SolvableId.eq A.PackageSource answers.old
         parent requirements.now constraints.now encoding.old encoding.new }
 {
-    guard_rules(answers, encoding, requirements, constraints)?;
+    forbid_for_rules(answers, encoding, requirements, constraints)?;
     add_rules(
         alloc,
         answers,

@@ -5,7 +5,7 @@ use Rattle.resolvo_sat.specs.RuleClauses.{IsForbiddenIn, IsForbidden}
 use Rattle.resolvo_encoder.specs.Encoded.{rules_of, IsMarkKnown}
 use Rattle.resolvo_encoder.specs.Steps.{IsBuilt}
 use Rattle.resolvo_turn.specs.Encoder.{KeepsMarks, IsInOrder, AddsNeeds}
-use Rattle.resolvo_turn.proofs.guards.forbid_packages.Given as goal
+use Rattle.resolvo_turn.proofs.forbid.forbid_packages.Given as goal
 
 -- the locks and exclusions of the packages so far are encoded
 abbrev pub invariant-loop-name : goal.invariant-loop-name

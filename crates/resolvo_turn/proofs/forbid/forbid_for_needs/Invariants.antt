@@ -1,7 +1,7 @@
 use Rattle.std.proofs.Common.{◌≡◌}
 use Rattle.resolvo_encoder.specs.Steps.{IsBuilt}
 use Rattle.resolvo_turn.specs.Encoder.{AddsNeeds, StaysInOrder}
-use Rattle.resolvo_turn.proofs.guards.guard_needs.Given as goal
+use Rattle.resolvo_turn.proofs.forbid.forbid_for_needs.Given as goal
 
 -- the encoding is still in order
 abbrev pub invariant-loop-need : goal.invariant-loop-need

@@ -3,7 +3,7 @@ use Rattle.resolvo_packages.specs.declared.package_source.ForbiddenSolvable.{For
 use Rattle.resolvo_packages.specs.Forbidden.{AreForbidden}
 use Rattle.resolvo_encoder.proofs.PickLemmas.{ordered_stays}
 use Rattle.resolvo_turn.specs.LacksIds.{LacksIds}
-use Rattle.resolvo_turn.proofs.guards.forbid_candidates.Goals as goal
+use Rattle.resolvo_turn.proofs.forbid.forbid_candidates.Goals as goal
 
 pub returns-clause-encoded : goal.returns-clause-encoded
 returns-clause-encoded g c = λ root e known.

@@ -6,7 +6,7 @@ use Rattle.resolvo_encoder.specs.Encoded.{AreOrdered}
 use Rattle.resolvo_turn.specs.Effects.{ForbidsCandidates}
 use Rattle.resolvo_turn.proofs.AddLemmas.{needs_none, needs_then, extends_needs, marks_needs}
 use Rattle.resolvo_turn.specs.LacksIds.{LacksIds, StopsAnyhow}
-use Rattle.resolvo_turn.proofs.guards.forbid_package.Goals as goal
+use Rattle.resolvo_turn.proofs.forbid.forbid_package.Goals as goal
 
 pub returns-then-is_encoded-clause-encoded : goal.returns-then-is_encoded-clause-encoded
 returns-then-is_encoded-clause-encoded g c = λ root e. (e, (λ s h. e.encoding.recorded.packages c.args.name s (c.is_encoded.ensures.0 c.if-is_encoded.true) h), e.encoding.marks.recorded c.args.name (c.is_encoded.ensures.0 c.if-is_encoded.true))

@@ -6,7 +6,7 @@ use Rattle.resolvo_pool_core.specs.Text.{alternatives_of}
 use Rattle.resolvo_sat.proofs.Lists.{contains_map, contains_one}
 use Rattle.resolvo_sat.specs.RuleClauses.{IsForbiddenIn}
 use Rattle.resolvo_encoder.specs.Encoded.{IsMarkKnown}
-use Rattle.resolvo_turn.proofs.guards.guard.Goals as goal
+use Rattle.resolvo_turn.proofs.forbid.forbid_named.Goals as goal
 
 pub returns-in_ok-forbid_package-in-Single-clause-encoded : goal.returns-in_ok-forbid_package-in-Single-clause-encoded
 returns-in_ok-forbid_package-in-Single-clause-encoded g c = λ root e.

@@ -9,7 +9,7 @@ use Rattle.resolvo_encoder.specs.Encoded.{rules_of, IsMarkKnown}
 use Rattle.resolvo_turn.specs.Encoder.{IsInOrder}
 use Rattle.resolvo_turn.proofs.AddLemmas.{needs_none, needs_then}
 use Rattle.resolvo_turn.specs.LacksIds.{StopsAnyhow}
-use Rattle.resolvo_turn.proofs.guards.forbid_packages.Goals as goal
+use Rattle.resolvo_turn.proofs.forbid.forbid_packages.Goals as goal
 
 pub loop-name-init : goal.loop-name-init
 loop-name-init g c = record { same = refl; encoded = λ root e. (e, (λ name s h forbidden. absurd (contains_none name h)), λ name h. absurd (contains_none name h)); marks = λ n h. h; kept = needs_none c.args.encoding.now; fired = refl; built = c.requires }

@@ -102,7 +102,7 @@ fn forbid_packages<A: PackageSource>(
 }
 
 /// Encodes the locks and exclusions of the packages of a requirement.
-pub fn guard<A: PackageSource>(
+pub fn forbid_named<A: PackageSource>(
     answers: &mut A,
     encoding: &mut Encoder<A::NameId, A::SolvableId>,
     requirement: Requirement,
@@ -138,7 +138,7 @@ pub fn guard<A: PackageSource>(
 
 /// Encodes the locks and exclusions of the packages of a requirement, unless it has a condition.
 /// Where it has its candidates, they are encoded.
-fn guard_plain<A: PackageSource>(
+fn forbid_for_need<A: PackageSource>(
     answers: &mut A,
     encoding: &mut Encoder<A::NameId, A::SolvableId>,
     need: ConditionalRequirement,
@@ -159,12 +159,12 @@ fn guard_plain<A: PackageSource>(
     if need.condition.is_some() || encoding.is_fixed(need.requirement) {
         return Ok(());
     }
-    guard(answers, encoding, need.requirement)?;
+    forbid_named(answers, encoding, need.requirement)?;
     Ok(())
 }
 
 /// Encodes the locks and exclusions of the packages of requirements without a condition.
-fn guard_needs<A: PackageSource>(
+fn forbid_for_needs<A: PackageSource>(
     answers: &mut A,
     encoding: &mut Encoder<A::NameId, A::SolvableId>,
     needs: &[ConditionalRequirement],
@@ -183,13 +183,13 @@ fn guard_needs<A: PackageSource>(
         → StopsAnyhow A.SolvableId.eq A.PackageSource answers.old encoding.new }
 {
     for need in needs {
-        guard_plain(answers, encoding, *need)?;
+        forbid_for_need(answers, encoding, *need)?;
     }
     Ok(())
 }
 
 /// Encodes the locks and exclusions of the packages of constraints.
-fn guard_limits<A: PackageSource>(
+fn forbid_for_limits<A: PackageSource>(
     answers: &mut A,
     encoding: &mut Encoder<A::NameId, A::SolvableId>,
     constraints: &[VersionSetId],
@@ -208,14 +208,14 @@ fn guard_limits<A: PackageSource>(
         → StopsAnyhow A.SolvableId.eq A.PackageSource answers.old encoding.new }
 {
     for version_set in constraints {
-        guard(answers, encoding, Requirement::Single(*version_set))?;
+        forbid_named(answers, encoding, Requirement::Single(*version_set))?;
     }
     Ok(())
 }
 
 /// Encodes the locks and exclusions of the packages of requirements without a condition, then of
 /// constraints.
-pub(crate) fn guard_rules<A: PackageSource>(
+pub(crate) fn forbid_for_rules<A: PackageSource>(
     answers: &mut A,
     encoding: &mut Encoder<A::NameId, A::SolvableId>,
     requirements: &[ConditionalRequirement],
@@ -234,7 +234,7 @@ pub(crate) fn guard_rules<A: PackageSource>(
     ensures ids { IsErrOf result Ids
         → StopsAnyhow A.SolvableId.eq A.PackageSource answers.old encoding.new }
 {
-    guard_needs(answers, encoding, requirements)?;
-    guard_limits(answers, encoding, constraints)?;
+    forbid_for_needs(answers, encoding, requirements)?;
+    forbid_for_limits(answers, encoding, constraints)?;
     Ok(())
 }
