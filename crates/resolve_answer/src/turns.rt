@@ -6,7 +6,7 @@ ghost use Rattle.resolvo_report.specs.View.{steps_of};
 ghost use Rattle.resolve_answer.specs.ReportTurns.{number_at, AreReportTurns, AreWanted, IsBetween, IsFirstTurn, IsWishedTurn, Wants, HasPlaceTooGreat, LacksStepNumber};
 
 use crate::wishes::Wish;
-use resolve_order as report;
+use resolve_order as order;
 use resolvo::turns::Turn;
 use resolvo_catalogue_core::VersionNo;
 use resolvo_pool_core::id::SolvableId;
@@ -58,14 +58,14 @@ impl<'a> Outcome<'a> {
     }
 
     /// The turn of the request's needs.
-    fn first(self) -> report::Turn<'a>
+    fn first(self) -> order::Turn<'a>
         ensures { IsFirstTurn self.entry.chosen.now self.entry.turns.now result }
     {
         let end = match self.turns.first() {
             Some(turn) => turn.begin,
             None => self.chosen.len(),
         };
-        report::Turn::Chose {
+        order::Turn::Chose {
             wish: None,
             chosen: self.between(0, end),
         }
@@ -90,7 +90,7 @@ impl<'a> Outcome<'a> {
     }
 
     /// The turn of a wish that the solver was asked for, by the place of its turn there.
-    fn wished(self, wish: (u32, VersionNo), place: usize) -> R<report::Turn<'a>>
+    fn wished(self, wish: (u32, VersionNo), place: usize) -> R<order::Turn<'a>>
         ensures turn { IfOk result
             (λ t.
             IsWishedTurn self.entry.chosen.now self.entry.places.now wish
@@ -100,17 +100,17 @@ impl<'a> Outcome<'a> {
         match self.turns.get(place) {
             Some(turn) => {
                 if turn.accepted {
-                    return Ok(report::Turn::Chose {
+                    return Ok(order::Turn::Chose {
                         wish: Some(wish),
                         chosen: self.between(turn.begin, turn.end),
                     });
                 }
-                Ok(report::Turn::LeftOut {
+                Ok(order::Turn::LeftOut {
                     wish,
                     step: self.number_of(turn)?,
                 })
             }
-            None => Ok(report::Turn::LeftOut { wish, step: 0 }),
+            None => Ok(order::Turn::LeftOut { wish, step: 0 }),
         }
     }
 }
@@ -137,7 +137,7 @@ pub fn report_turns<'a>(
     outcome: Outcome<'a>,
     wishes: Vec<Wish>,
     steps: &mut Vec<Step>,
-) -> R<Vec<report::Turn<'a>>>
+) -> R<Vec<order::Turn<'a>>>
     ensures turns { IfOk result
         (λ v.
         AreReportTurns outcome.entry wishes.items (steps_of steps.old.items) v.items
@@ -157,7 +157,7 @@ pub fn report_turns<'a>(
         match forbidden_by {
             Some(step) => {
                 let step = push_step(steps, step)?;
-                matched.push(report::Turn::LeftOut {
+                matched.push(order::Turn::LeftOut {
                     wish: (line, version),
                     step,
                 })?;
