@@ -13,12 +13,12 @@ ghost use Rattle.resolvo_report.specs.Value.{Step as StepValue};
 ghost use Rattle.resolvo_report.specs.View.{step_of, atom_of, literal_of, literals_of as report_literals};
 ghost use Rattle.resolvo_checker.specs.Literals.{literals_of, clause_at};
 ghost use Rattle.resolvo_checker.specs.Rup.{is_earlier};
-ghost use Rattle.resolvo_checker.specs.StepClauses.{is_atom, fits_mark, is_listed, literal_of as plain_literal, clause_of as clause_of_lem};
-ghost use Rattle.resolvo_checker.specs.Proof.{rests_on_named, allows_place, follows as follows_lem};
+ghost use Rattle.resolvo_checker.specs.StepClauses.{is_atom, fits_mark, is_listed, literal_of as plain_literal, clause_of};
+ghost use Rattle.resolvo_checker.specs.Proof.{rests_on_named, allows_place, follows};
 ghost use Rattle.resolvo_checker.specs.Keys.{Extends, Numbered};
 ghost use Rattle.resolvo_checker.specs.Numbers.{AreNumbers};
 ghost use Rattle.resolvo_checker.specs.Kept.{Ready, deferred_at, is_ready};
-ghost use Rattle.resolvo_checker.specs.CheckStep.{flag_at, names_catalogue, names_request, allows, causes_in, causes_of as causes_of_lem, clause_or_none, AtomIds as NumbersOf, CheckerInvariant, TellsValid, AddsStep, ReadsCauses, Given, NamesReady};
+ghost use Rattle.resolvo_checker.specs.CheckStep.{flag_at, names_catalogue, names_request, allows, causes_in, causes_of, clause_or_none, AtomIds as NumbersOf, CheckerInvariant, TellsValid, AddsStep, ReadsCauses, Given, NamesReady};
 ghost use Rattle.resolvo_checker.specs.Built.{rule_clause_of};
 
 use crate::assignment::Assignment;
@@ -217,7 +217,7 @@ fn number_step(
 ) -> Result<bool, AllocError>
     ensures { IfOk result
         (λ there.
-        NumbersOf (clause_of_lem catalogue.now request.now.lines (step_of step.now)) there
+        NumbersOf (clause_of catalogue.now request.now.lines (step_of step.now)) there
         (listed catalogue.now) numbers.old numbers.new out.new.items) }
 {
     if let Step::Derive { literals, .. } = step {
@@ -282,7 +282,7 @@ fn build_causes(
 
 /// The numbers of the steps whose clauses a step names.
 fn causes_of(step: &Step) -> &[u32]
-    ensures { result.now ≡ causes_of_lem (step_of step.now) }
+    ensures { result.now ≡ causes_of (step_of step.now) }
 {
     match step {
         Step::Derive { causes, .. } => causes,
@@ -390,12 +390,12 @@ fn follows(
         (earlier : List StepValue) (count : ℕ)
         → AreNumbers entries count
         → AreDistinct (listed catalogue.now)
-        → is_some (clause_of_lem catalogue.now request (step_of step.now)) ≡ true
+        → is_some (clause_of catalogue.now request (step_of step.now)) ≡ true
         → CheckerInvariant catalogue.now request entries clauses.old.kept places.now rules earlier
         → Numbered (listed catalogue.now) entries
         (clause_or_none catalogue.now request (step_of step.now)) literals.now
         → NamesReady clauses.old.kept (step_of step.now)
-        → fine ≡ follows_lem catalogue.now request earlier (step_of step.now)) }
+        → fine ≡ follows catalogue.now request earlier (step_of step.now)) }
     // Whatever the answer.
     ensures pass { truth.new.pass ≤ length clauses.old.kept + 1 }
     ensures kept { clauses.new.kept ≡ clauses.old.kept }
@@ -430,8 +430,8 @@ fn record_place(catalogue: &Catalogue, places: &mut Vec<Option<u32>>, step: &Ste
     ensures long { length places.new.items ≡ length (listed catalogue.now) }
     ensures given { (request : List spelled.Line) (earlier : List StepValue)
         → AreDistinct (listed catalogue.now)
-        → is_some (clause_of_lem catalogue.now request (step_of step.now)) ≡ true
-        → follows_lem catalogue.now request earlier (step_of step.now) ≡ true
+        → is_some (clause_of catalogue.now request (step_of step.now)) ≡ true
+        → follows catalogue.now request earlier (step_of step.now) ≡ true
         → Given catalogue.now places.old.items earlier
         → Given catalogue.now places.new.items (earlier ++ step_of step.now ∷ []) }
 {

@@ -13,7 +13,7 @@ ghost use Rattle.resolvo_report.specs.Value.{OfVersion};
 ghost use Rattle.resolvo_terms.specs.Terms.{Terms};
 ghost use Rattle.resolvo_checker.specs.StepClauses.{line_of, place_fails, is_owner};
 ghost use Rattle.resolvo_checker.specs.Built.{somes};
-ghost use Rattle.resolvo_checker.specs.RuleLines.{line_of_rule, rule_line, line_of_kept, owned_line, need_line, line_of_need, need_kept as need_kept_lem, owner_in, owner_literals, is_owned_by, IsValid};
+ghost use Rattle.resolvo_checker.specs.RuleLines.{line_of_rule, rule_line, line_of_kept, owned_line, need_line, line_of_need, need_kept, owner_in, owner_literals, is_owned_by, IsValid};
 
 use resolvo_catalogue_core::{
     Catalogue, FoundRule, KeptLines, KeptRule, Request, Rule, Version, VersionNo, Versions,
@@ -87,7 +87,7 @@ fn need_kept(
     rule: KeptRule,
     version: &Version,
 ) -> Option<ConditionalRequirement>
-    ensures { result ≡ need_kept_lem versions.now rule (version_of version.now) }
+    ensures { result ≡ need_kept versions.now rule (version_of version.now) }
 {
     match rule {
         KeptRule::Needs { owner, need } => {

@@ -9,7 +9,7 @@ ghost use Rattle.resolvo_report.specs.Value.{Step as StepValue};
 ghost use Rattle.resolvo_report.specs.View.{step_of, steps_of};
 ghost use Rattle.resolvo_checker.specs.StepClauses.{Clause, clause_of};
 ghost use Rattle.resolvo_checker.specs.Proof.{IsProof, IsWrongAt, ObeysTested, ends_empty, forbids, AreApart};
-ghost use Rattle.resolvo_checker.specs.CheckStep.{names_catalogue, names_request, causes_in as causes_in_lem, count_causes, CheckerInvariant};
+ghost use Rattle.resolvo_checker.specs.CheckStep.{names_catalogue, names_request, causes_in, count_causes, CheckerInvariant};
 
 use crate::assignment::Assignment;
 use crate::atom_ids::AtomIds;
@@ -57,7 +57,7 @@ pub fn begin(alloc: Global, catalogue: &Catalogue, request: &Request) -> Result<
 
 /// How many clauses a step names.
 pub fn causes_in(step: &Step) -> u64
-    ensures { result ≡ causes_in_lem (step_of step.now) }
+    ensures { result ≡ causes_in (step_of step.now) }
 {
     match step {
         Step::Derive { causes, .. } => causes.len() as u64,

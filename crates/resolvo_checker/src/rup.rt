@@ -5,8 +5,8 @@ ghost use Rattle.std.specs.Bool.{nat_eq};
 ghost use Rattle.std.specs.List.{list_all};
 ghost use Rattle.resolvo_pool_core.specs.OnePass.{is_denied, reading, is_broken, learn, deny, one_pass};
 ghost use Rattle.resolvo_checker.specs.Truth.{known_in};
-ghost use Rattle.resolvo_checker.specs.Literals.{literal_of, literals_of, status_of as status_of_lem, clause_at};
-ghost use Rattle.resolvo_checker.specs.Rup.{is_earlier, with_literal as with_literal_lem};
+ghost use Rattle.resolvo_checker.specs.Literals.{literal_of, literals_of, status_of, clause_at};
+ghost use Rattle.resolvo_checker.specs.Rup.{is_earlier, with_literal};
 
 use crate::assignment::Assignment;
 use crate::clauses::Clauses;
@@ -25,8 +25,8 @@ fn is_false(truth: &Assignment, literal: Literal) -> bool
 
 /// The status of the clause with one more literal that isn't false.
 fn with_literal(status: ClauseStatus, literal: Literal) -> ClauseStatus
-    ensures { status_of_lem result
-        ≡ with_literal_lem nat_eq (status_of_lem status) (literal_of literal) }
+    ensures { status_of result
+        ≡ with_literal nat_eq (status_of status) (literal_of literal) }
 {
     match status {
         ClauseStatus::Falsified => ClauseStatus::Unit(literal),
@@ -43,7 +43,7 @@ fn with_literal(status: ClauseStatus, literal: Literal) -> ClauseStatus
 
 /// What the clause is under the assignment.
 fn status_of(truth: &Assignment, clause: &[Literal]) -> ClauseStatus
-    ensures { status_of_lem result
+    ensures { status_of result
         ≡ reading nat_eq (known_in truth.now.marks.items truth.now.pass) (literals_of clause.now) }
 {
     let mut status = ClauseStatus::Falsified;

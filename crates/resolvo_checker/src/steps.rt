@@ -9,7 +9,7 @@ ghost use Rattle.resolvo_catalogue_core.specs.Grammar.{line_at, owner_of};
 ghost use Rattle.resolvo_catalogue_core.specs.Listed.{listed, version_at, version_by};
 ghost use Rattle.resolvo_report.specs.Value.{Place as PlaceValue, OfVersion};
 ghost use Rattle.resolvo_report.specs.View.{place_of, step_of};
-ghost use Rattle.resolvo_checker.specs.StepClauses.{is_listed, is_outside as is_outside_lem, is_locked_out as is_locked_out_lem, place_fails, case_fails, some_match, case_at as case_at_lem, line_of, need_clause, gate_clause, limit_bars_clause, limit_clause, lock_clause, exclude_clause, unknown_clause, shared_clause, outside_clause, matches_clause, digit_clause, any_clause, clause_of as clause_of_lem};
+ghost use Rattle.resolvo_checker.specs.StepClauses.{is_listed, is_outside, is_locked_out, place_fails, case_fails, some_match, case_at, line_of, need_clause, gate_clause, limit_bars_clause, limit_clause, lock_clause, exclude_clause, unknown_clause, shared_clause, outside_clause, matches_clause, digit_clause, any_clause, clause_of};
 ghost use Rattle.resolvo_checker.specs.Kept.{is_long};
 ghost use Rattle.resolvo_checker.specs.Built.{literals_in, member_of, somes, seen, rule_clause_of};
 ghost use Rattle.resolvo_checker.specs.RuleLines.{line_of_rule, line_of_kept, owner_in, owner_literals, IsValid};
@@ -43,13 +43,13 @@ pub fn number_of(catalogue: &Catalogue, version: &Version) -> Option<VersionNo>
 
 /// Whether the version is of the SPEC's package and doesn't match.
 fn is_outside(spec: &Spec, version: &Version) -> bool
-    ensures { result ≡ is_outside_lem (spec_of spec.now) (version_of version.now) }
+    ensures { result ≡ is_outside (spec_of spec.now) (version_of version.now) }
 {
     version.name == spec.name && !is_in_span(spec.span, version.number)
 }
 
 fn is_locked_by(locked: (&str, u32), version: &Version) -> bool
-    ensures { result ≡ is_locked_out_lem (version_by locked.entry.0.now locked.entry.1) (version_of version.now) }
+    ensures { result ≡ is_locked_out (version_by locked.entry.0.now locked.entry.1) (version_of version.now) }
 {
     version.name.as_str() == locked.0 && version.number != locked.1
 }
@@ -57,7 +57,7 @@ fn is_locked_by(locked: (&str, u32), version: &Version) -> bool
 /// Whether the lock of the version of this number excludes the version.
 fn is_locked_out(versions: &Versions<'_>, locked: VersionNo, version: &Version) -> bool
     ensures { result
-        ≡ option_map_or (λ w. is_locked_out_lem w (version_of version.now))
+        ≡ option_map_or (λ w. is_locked_out w (version_of version.now))
         (slice_get versions.now locked.0) false }
 {
     match versions.get(locked) {
@@ -74,7 +74,7 @@ fn case_at(
 ) -> Result<Option<Vec<Spec>>, AllocError>
     ensures { IfOk result
         (λ o.
-        option_map (λ c. specs_of c.items) o ≡ case_at_lem (condition_of condition.now) case) }
+        option_map (λ c. specs_of c.items) o ≡ case_at (condition_of condition.now) case) }
 {
     if case == 0 {
         return Ok(None);
@@ -616,7 +616,7 @@ fn has_need_case(
     case: u32,
 ) -> Result<bool, AllocError>
     ensures { IfOk result
-        (λ fine. fine ≡ is_some (case_at_lem (option_map (cond_at terms.now) need.condition) case)) }
+        (λ fine. fine ≡ is_some (case_at (option_map (cond_at terms.now) need.condition) case)) }
 {
     let condition = terms.condition_of(need.condition)?;
     Ok(case_at(alloc, &condition, case)?.is_some())
@@ -678,7 +678,7 @@ pub fn has_clause(
     ensures { is_long (step_of step.now) ≡ true
         → IfOk result
         (λ fine.
-        fine ≡ is_some (clause_of_lem catalogue.now request.now.lines (step_of step.now))) }
+        fine ≡ is_some (clause_of catalogue.now request.now.lines (step_of step.now))) }
 {
     match step {
         Step::Need { place, line, case } => {

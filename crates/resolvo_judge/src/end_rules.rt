@@ -5,7 +5,7 @@ ghost use Rattle.resolvo_text.specs.Line as spelled;
 ghost use Rattle.resolvo_text.specs.Line.{Lock};
 ghost use Rattle.resolvo_text.specs.Matches.{Set, is_member};
 ghost use Rattle.resolvo_catalogue_core.specs.Questions.{IsRuleLine, IsOwner};
-ghost use Rattle.resolvo_catalogue_core.specs.Rules.{binds as binds_lem, obeys as obeys_lem, keeps, keeps_in_request};
+ghost use Rattle.resolvo_catalogue_core.specs.Rules.{binds, obeys, keeps, keeps_in_request};
 ghost use Rattle.resolvo_judge.specs.Chosen.{Holds};
 ghost use Rattle.resolvo_judge.specs.EndRules.{KeepsAll};
 
@@ -31,7 +31,7 @@ fn binds(chosen: &Chosen, versions: &Versions<'_>, owner: Option<VersionNo>) -> 
     ensures { (set : Set) (whose : Option spelled.Version)
         → Holds chosen.now set
         → IsOwner versions.now owner whose
-        → result ≡ binds_lem whose set }
+        → result ≡ binds whose set }
 {
     match owner {
         Some(number) => is_chosen(chosen, versions, number),
@@ -43,7 +43,7 @@ fn keeps_lock(chosen: &Chosen, versions: &Versions<'_>, locked: VersionNo) -> bo
     ensures { (set : Set) (v : spelled.Version)
         → Holds chosen.now set
         → slice_get versions.now locked.0 ≡ Some v
-        → result ≡ obeys_lem None (Lock v) set }
+        → result ≡ obeys None (Lock v) set }
 {
     match versions.get(locked) {
         Some(version) => chosen.keeps_lock(version),
@@ -56,7 +56,7 @@ fn obeys(chosen: &Chosen, versions: &Versions<'_>, rule: &Rule) -> bool
     ensures { (set : Set) (owner : Option spelled.Version) (line : spelled.Line)
         → Holds chosen.now set
         → IsRuleLine versions.now rule.now owner line
-        → result ≡ obeys_lem owner line set }
+        → result ≡ obeys owner line set }
 {
     match rule {
         Rule::Needs {

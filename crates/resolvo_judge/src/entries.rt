@@ -4,7 +4,7 @@
 ghost use Rattle.std.specs.Prelude.{◌≡◌, [], ◌<◌, ◌+◌, ◌^◌, List, Option, IfOk, OnOk, IsTrue, true, option_and_then, option_copied};
 ghost use Rattle.std.specs.List.{list_any};
 ghost use Rattle.resolvo_text.specs.Line as spelled;
-ghost use Rattle.resolvo_text.specs.Matches.{Set, same_version, matches as matches_lem};
+ghost use Rattle.resolvo_text.specs.Matches.{Set, same_version, matches};
 ghost use Rattle.resolvo_text.specs.View.{version_of, spec_of, specs_of};
 ghost use Rattle.resolvo_catalogue_core.specs.Grammar.{line_at};
 ghost use Rattle.resolvo_catalogue_core.specs.Listed.{listed};
@@ -12,7 +12,7 @@ ghost use Rattle.resolvo_report.specs.Value as model;
 ghost use Rattle.resolvo_report.specs.View.{place_of, answer_line_of};
 ghost use Rattle.resolvo_checker.specs.RuleLines.{line_of_rule, owned_line};
 ghost use Rattle.resolvo_judge.specs.Chosen.{Holds};
-ghost use Rattle.resolvo_judge.specs.Entries.{is_free as is_free_lem, may_enter as may_enter_lem, is_place_taken as is_place_taken_lem, gives as gives_lem, is_reason as is_reason_lem, is_wish as is_wish_lem, entries_of};
+ghost use Rattle.resolvo_judge.specs.Entries.{is_free, may_enter, is_place_taken, gives, is_reason, is_wish, entries_of};
 ghost use Rattle.resolvo_judge.specs.KeptAnswers.{KeepsAnswers, KeepsLines, DecidesFit, AddsAnswer, AddsLine, IsWishAnswered, AreWishesAnswered, is_after};
 
 use crate::chosen::Chosen;
@@ -40,7 +40,7 @@ pub struct Entries {
 }
 
 fn any_matches(alternatives: &[Spec], version: &Version) -> bool
-    ensures { result ≡ list_any (λ s. matches_lem (spec_of s) (version_of version.now)) alternatives.now }
+    ensures { result ≡ list_any (λ s. matches (spec_of s) (version_of version.now)) alternatives.now }
 {
     alternatives.iter().any(|spec| matches(spec, version))
 }
@@ -49,7 +49,7 @@ fn any_matches(alternatives: &[Spec], version: &Version) -> bool
 #[tactic(auto, using(crate::proofs::EntryLemmas::any_at))]
 fn matches_at(alternatives: &[Spec], place: Option<usize>, version: &Version) -> bool
     ensures { IsTrue result
-        → list_any (λ s. matches_lem (spec_of s) (version_of version.now)) alternatives.now ≡ true }
+        → list_any (λ s. matches (spec_of s) (version_of version.now)) alternatives.now ≡ true }
 {
     let Some(place) = place else {
         return false;
@@ -62,7 +62,7 @@ fn matches_at(alternatives: &[Spec], place: Option<usize>, version: &Version) ->
 
 /// Whether the version matches one of the alternatives. That of the place is tried first.
 fn one_matches(alternatives: &[Spec], place: Option<usize>, version: &Version) -> bool
-    ensures { result ≡ list_any (λ s. matches_lem s (version_of version.now)) (specs_of alternatives.now) }
+    ensures { result ≡ list_any (λ s. matches s (version_of version.now)) (specs_of alternatives.now) }
 {
     if matches_at(alternatives, place, version) {
         return true;
@@ -80,7 +80,7 @@ fn gives(
     ensures { (set : Set) (vs : List spelled.Version)
         → Holds chosen.now set
         → result
-        ≡ gives_lem (option_and_then (line_of_rule vs) (option_copied rule.entry)) set
+        ≡ gives (option_and_then (line_of_rule vs) (option_copied rule.entry)) set
         (version_of version.now) }
 {
     match rule {
@@ -121,7 +121,7 @@ impl Entries {
     fn is_free(&self, catalogue: &Catalogue, version: &Version) -> bool
         ensures { (set : Set)
             → Holds self.now.chosen set
-            → result ≡ is_free_lem catalogue.now set (version_of version.now) }
+            → result ≡ is_free catalogue.now set (version_of version.now) }
     {
         if catalogue.is_many(&version.name) {
             return !self.chosen.has(version);
@@ -133,7 +133,7 @@ impl Entries {
     fn may_enter(&self, catalogue: &Catalogue, version: &Version) -> bool
         ensures { (before : List model.AnswerLine)
             → KeepsAnswers self.now before
-            → result ≡ may_enter_lem catalogue.now before (version_of version.now) }
+            → result ≡ may_enter catalogue.now before (version_of version.now) }
     {
         number_of(catalogue, version).is_some()
             && self.is_free(catalogue, version)
@@ -143,7 +143,7 @@ impl Entries {
     fn is_place_taken(&self, place: &Place) -> bool
         ensures { (before : List model.AnswerLine)
             → KeepsAnswers self.now before
-            → result ≡ is_place_taken_lem (place_of place.now) (entries_of before) }
+            → result ≡ is_place_taken (place_of place.now) (entries_of before) }
     {
         match place {
             Place::Request => true,
@@ -166,7 +166,7 @@ impl Entries {
             → IfOk result
             (λ is.
             is
-            ≡ is_reason_lem catalogue.now request.now.lines (entries_of before)
+            ≡ is_reason catalogue.now request.now.lines (entries_of before)
             (place_of place.now) line (version_of version.now)) }
     {
         if !self.is_place_taken(place) {
@@ -201,7 +201,7 @@ impl Entries {
     fn is_wish(&self, request: &Request, line: u32, version: &Version) -> bool
         ensures { (before : List model.AnswerLine)
             → KeepsAnswers self.now before
-            → result ≡ is_wish_lem request.now.lines before line (version_of version.now) }
+            → result ≡ is_wish request.now.lines before line (version_of version.now) }
     {
         match request.wish(line) {
             Some(wish) => is_same(version, wish) && self.is_next_wish(line),

@@ -8,12 +8,12 @@ ghost use Rattle.resolvo_text.specs.Matches.{Set, same_version, is_member};
 ghost use Rattle.resolvo_text.specs.View.{version_of};
 ghost use Rattle.resolvo_catalogue_core.specs.Listed.{version_by};
 ghost use Rattle.resolvo_report.specs.View.{step_of, literal_of as report_literal, literals_of as report_literals};
-ghost use Rattle.resolvo_checker.specs.StepClauses.{Clause, clause_of as clause_of_lem, literal_of as plain_literal};
+ghost use Rattle.resolvo_checker.specs.StepClauses.{Clause, clause_of, literal_of as plain_literal};
 ghost use Rattle.resolvo_checker.specs.Proof.{forbids};
 ghost use Rattle.resolvo_checker.specs.Built.{literals_in, literal_of as built_literal, somes, rule_clause_of};
 ghost use Rattle.resolvo_judge.specs.Chosen.{Holds};
 ghost use Rattle.resolvo_judge.specs.ForbiddenWishes.{forbidden_of};
-ghost use Rattle.resolvo_judge.specs.Forbids.{literal_forbids as literal_forbids_lem, built_forbid, clause_forbids};
+ghost use Rattle.resolvo_judge.specs.Forbids.{literal_forbids, built_forbid, clause_forbids};
 
 use crate::chosen::Chosen;
 use crate::forbidden_wishes::Forbidden;
@@ -64,7 +64,7 @@ fn built_forbids(
         → Holds chosen.now set
         → result
         ≡ option_map_or
-        (literal_forbids_lem (take forbidden.now.above set) (version_of forbidden.now.wish))
+        (literal_forbids (take forbidden.now.above set) (version_of forbidden.now.wish))
         (built_literal versions.now built.now.atom built.now.positive) false }
 {
     match &built.atom {
@@ -96,7 +96,7 @@ fn literal_forbids(chosen: &Chosen, literal: &Literal, forbidden: &Forbidden) ->
     ensures { (set : Set)
         → Holds chosen.now set
         → result
-        ≡ literal_forbids_lem (take forbidden.now.above set) (version_of forbidden.now.wish)
+        ≡ literal_forbids (take forbidden.now.above set) (version_of forbidden.now.wish)
         (plain_literal (report_literal literal.now)) }
 {
     match &literal.atom {
@@ -218,7 +218,7 @@ pub fn step_forbids(
         (λ fine.
         (set : Set) (clause : Clause)
         → Holds chosen.now set
-        → clause_of_lem catalogue.now request.now.lines (step_of step.now) ≡ Some clause
+        → clause_of catalogue.now request.now.lines (step_of step.now) ≡ Some clause
         → fine ≡ list_all (clause_forbids set clause) (map forbidden_of wishes.now)) }
 {
     if wishes.is_empty() {

@@ -5,10 +5,10 @@ ghost use Rattle.std.specs.Prelude.{◌≡◌, ◌+◌, ◌^◌, ◌<◌, ◌≤
 ghost use Rattle.resolvo_report.specs.Value.{Report as ReportValue, ReportLine as LineValue, Numbered};
 ghost use Rattle.resolvo_report.specs.Text.{report_lines};
 ghost use Rattle.resolvo_report.specs.View.{report_line_of, step_of};
-ghost use Rattle.resolvo_checker.specs.CheckStep.{causes_in as causes_in_lem};
-ghost use Rattle.resolvo_judge.specs.Refusal.{passes, answers_in, is_refusal as is_refusal_lem, ArePassed};
+ghost use Rattle.resolvo_checker.specs.CheckStep.{causes_in};
+ghost use Rattle.resolvo_judge.specs.Refusal.{passes, answers_in, is_refusal, ArePassed};
 ghost use Rattle.resolvo_judge.specs.Log.{KeepsLog, IfPassed, PassIsWithin, HasAllPlaces, DecidesStep, AddsStep, ReadsMore};
-ghost use Rattle.resolvo_judge.specs.Log.{is_head, causes_of_line as causes_of_line_lem};
+ghost use Rattle.resolvo_judge.specs.Log.{is_head, causes_of_line};
 ghost use Rattle.resolvo_judge.specs.KeptAnswers.{KeepsAnswers, KeepsLines};
 ghost use Rattle.resolvo_judge.specs.JudgeState.{JudgeInvariant, FlagsNext, DecidesEnd};
 
@@ -81,7 +81,7 @@ pub fn begin(
 
 /// Whether the line is the first of a refusal.
 fn is_refusal(first: &ReportLine) -> bool
-    ensures { result ≡ is_refusal_lem (report_line_of first.now ∷ []) }
+    ensures { result ≡ is_refusal (report_line_of first.now ∷ []) }
 {
     match first {
         ReportLine::Refused => true,
@@ -102,7 +102,7 @@ fn take_numbered(
     requires later { PassIsWithin judging.old.log clauses.old.kept }
     requires long { HasAllPlaces judging.old.log catalogue.now }
     requires short { length clauses.old.kept + 1 < 2 ^ 32 }
-    requires room { clauses.old.readings.read + causes_in_lem (step_of step.now) < 2 ^ 64 }
+    requires room { clauses.old.readings.read + causes_in (step_of step.now) < 2 ^ 64 }
     // After an answer.
     ensures answer { IfOk result (DecidesStep catalogue.now request.now.lines judging.old.log
         clauses.old.kept (step_of step.now)) }
@@ -115,7 +115,7 @@ fn take_numbered(
     ensures later { IfPassed result (PassIsWithin judging.new.log clauses.new.kept) }
     ensures long { IfPassed result (HasAllPlaces judging.new.log catalogue.now) }
     ensures count { IfPassed result (length clauses.new.kept ≡ length clauses.old.kept + 1) }
-    ensures read { IfPassed result (ReadsMore clauses.old.readings (causes_in_lem (step_of step.now))
+    ensures read { IfPassed result (ReadsMore clauses.old.readings (causes_in (step_of step.now))
         clauses.new.readings) }
     // Whatever the answer.
     ensures entries { judging.new.entries ≡ judging.old.entries }
@@ -145,7 +145,7 @@ fn take_line(
     requires long { HasAllPlaces judging.old.log catalogue.now }
     requires short { length clauses.old.kept + 1 < 2 ^ 32 }
     requires few { judging.old.entries.chosen.count < 2 ^ 32 }
-    requires room { clauses.old.readings.read + causes_of_line_lem (report_line_of line.now) < 2 ^ 64 }
+    requires room { clauses.old.readings.read + causes_of_line (report_line_of line.now) < 2 ^ 64 }
     // After an answer.
     ensures answer { IfOk result (λ fine. (above : List LineValue)
         → KeepsLog catalogue.now request.now.lines judging.old.log clauses.old.kept above
@@ -175,7 +175,7 @@ fn take_line(
     ensures few { IfPassed result
         (judging.new.entries.chosen.count < judging.old.entries.chosen.count + 2) }
     ensures read { IfPassed result (ReadsMore clauses.old.readings
-        (causes_of_line_lem (report_line_of line.now)) clauses.new.readings) }
+        (causes_of_line (report_line_of line.now)) clauses.new.readings) }
     // Whatever the answer.
     ensures refused { judging.new.refused ≡ judging.old.refused }
 {
@@ -211,7 +211,7 @@ fn take_line(
 
 /// How many clauses the line names.
 fn causes_of_line(line: &ReportLine) -> u64
-    ensures { result ≡ causes_of_line_lem (report_line_of line.now) }
+    ensures { result ≡ causes_of_line (report_line_of line.now) }
 {
     match line {
         ReportLine::Step { step, .. } => causes_in(step),
@@ -233,8 +233,8 @@ pub fn take(
     requires long { HasAllPlaces judging.old.log catalogue.now }
     requires short { length clauses.old.kept + 1 < 2 ^ 32 }
     requires few { judging.old.entries.chosen.count < 2 ^ 32 }
-    requires room { clauses.old.readings.read + causes_of_line_lem (report_line_of line) < 2 ^ 64 }
-    requires named { clauses.old.readings.named + causes_of_line_lem (report_line_of line) < 2 ^ 64 }
+    requires room { clauses.old.readings.read + causes_of_line (report_line_of line) < 2 ^ 64 }
+    requires named { clauses.old.readings.named + causes_of_line (report_line_of line) < 2 ^ 64 }
     // After an answer.
     ensures answer { IfOk result (λ fine. (above : List LineValue)
         → JudgeInvariant catalogue.now request.now.lines judging.old clauses.old.kept above
@@ -242,7 +242,7 @@ pub fn take(
     // If the line passes.
     ensures represents { IfPassed result ((above : List LineValue)
         → is_head (report_line_of line) ≡ false
-        → is_refusal_lem (above ++ report_line_of line ∷ []) ≡ is_refusal_lem above
+        → is_refusal (above ++ report_line_of line ∷ []) ≡ is_refusal above
         → JudgeInvariant catalogue.now request.now.lines judging.old clauses.old.kept above
         → JudgeInvariant catalogue.now request.now.lines judging.new clauses.new.kept
         (above ++ report_line_of line ∷ [])) }
@@ -252,9 +252,9 @@ pub fn take(
     ensures few { IfPassed result
         (judging.new.entries.chosen.count < judging.old.entries.chosen.count + 2) }
     ensures read { IfPassed result (clauses.new.readings.read
-        ≡ clauses.old.readings.read + causes_of_line_lem (report_line_of line)) }
+        ≡ clauses.old.readings.read + causes_of_line (report_line_of line)) }
     ensures named { IfPassed result (clauses.new.readings.named
-        ≡ clauses.old.readings.named + causes_of_line_lem (report_line_of line)) }
+        ≡ clauses.old.readings.named + causes_of_line (report_line_of line)) }
 {
     if !take_line(alloc, catalogue, request, judging, clauses, &line)? {
         return Ok(false);
@@ -272,7 +272,7 @@ fn installs(
     clauses: &Clauses,
 ) -> Result<bool, AllocError>
     ensures { (r : ReportValue)
-        → is_refusal_lem (report_lines r) ≡ false
+        → is_refusal (report_lines r) ≡ false
         → JudgeInvariant catalogue.now request.now.lines judging.now clauses.now.kept (report_lines r)
         → IfOk result (DecidesEnd catalogue.now request.now.lines (report_lines r)) }
 {

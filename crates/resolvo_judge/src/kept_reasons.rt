@@ -5,14 +5,14 @@ ghost use Rattle.std.specs.Prelude.{◌≡◌, List, IfOk, IsTrue, Some, true};
 ghost use Rattle.std.specs.List.{list_any};
 ghost use Rattle.std.specs.Option.{option_map};
 ghost use Rattle.resolvo_text.specs.Line as spelled;
-ghost use Rattle.resolvo_text.specs.Matches.{Set, matches as matches_lem, condition_holds as condition_holds_lem};
+ghost use Rattle.resolvo_text.specs.Matches.{Set, matches, condition_holds};
 ghost use Rattle.resolvo_text.specs.View.{version_of};
 ghost use Rattle.resolvo_terms.specs.Known.{spec_at, alternatives_at, cond_at};
 ghost use Rattle.resolvo_report.specs.Value.{OfVersion};
 ghost use Rattle.resolvo_checker.specs.StepClauses.{line_of};
 ghost use Rattle.resolvo_checker.specs.RuleLines.{line_of_need};
 ghost use Rattle.resolvo_judge.specs.Chosen.{Holds};
-ghost use Rattle.resolvo_judge.specs.Entries.{gives as gives_lem};
+ghost use Rattle.resolvo_judge.specs.Entries.{gives as gives_spec};
 
 use crate::chosen::Chosen;
 use resolvo_catalogue_core::{Catalogue, Version, is_in_span};
@@ -24,7 +24,7 @@ use std::alloc::AllocError;
 
 /// Whether the version matches the SPEC of this number.
 fn matches(terms: &Terms, spec: VersionSetId, version: &Version) -> bool
-    ensures { result ≡ matches_lem (spec_at terms.now spec) (version_of version.now) }
+    ensures { result ≡ matches (spec_at terms.now spec) (version_of version.now) }
 {
     version.name.as_str() == terms.name(terms.set_package(spec))
         && is_in_span(terms.span(spec), version.number)
@@ -39,7 +39,7 @@ fn matches_at(
     version: &Version,
 ) -> bool
     ensures { IsTrue result
-        → list_any (λ s. matches_lem (spec_at terms.now s) (version_of version.now)) specs.now
+        → list_any (λ s. matches (spec_at terms.now s) (version_of version.now)) specs.now
         ≡ true }
 {
     let Some(place) = place else {
@@ -54,7 +54,7 @@ fn matches_at(
 // split for the prover: list and set
 fn any_matches(terms: &Terms, specs: &[VersionSetId], version: &Version) -> bool
     ensures { result
-        ≡ list_any (λ s. matches_lem (spec_at terms.now s) (version_of version.now)) specs.now }
+        ≡ list_any (λ s. matches (spec_at terms.now s) (version_of version.now)) specs.now }
 {
     specs.iter().any(|spec| matches(terms, *spec, version))
 }
@@ -67,7 +67,7 @@ fn one_matches(
     version: &Version,
 ) -> bool
     ensures { result
-        ≡ list_any (λ s. matches_lem (spec_at terms.now s) (version_of version.now)) specs.now }
+        ≡ list_any (λ s. matches (spec_at terms.now s) (version_of version.now)) specs.now }
 {
     if matches_at(terms, specs, place, version) {
         return true;
@@ -78,7 +78,7 @@ fn one_matches(
 /// Whether the version matches one of the alternatives of this number.
 fn meets(terms: &Terms, alternatives: Requirement, place: Option<usize>, version: &Version) -> bool
     ensures { result
-        ≡ list_any (λ s. matches_lem s (version_of version.now))
+        ≡ list_any (λ s. matches s (version_of version.now))
         (alternatives_at terms.now alternatives) }
 {
     match alternatives {
@@ -97,7 +97,7 @@ fn condition_holds(
         → Holds chosen.now set
         → IfOk result
         (λ holds.
-        holds ≡ condition_holds_lem (option_map (cond_at terms.now) need.condition) set) }
+        holds ≡ condition_holds (option_map (cond_at terms.now) need.condition) set) }
 {
     let condition = terms.condition_of(need.condition)?;
     Ok(chosen.condition_holds(&condition))
@@ -115,7 +115,7 @@ fn need_gives(
         → Holds chosen.now set
         → IfOk result
         (λ gives.
-        gives ≡ gives_lem (Some (line_of_need terms.now need)) set (version_of version.now)) }
+        gives ≡ gives_spec (Some (line_of_need terms.now need)) set (version_of version.now)) }
 {
     if !meets(terms, need.requirement, place, version) {
         return Ok(false);
@@ -138,7 +138,7 @@ pub fn gives_at(
         → IfOk result
         (λ gives.
         gives
-        ≡ gives_lem (line_of catalogue.now request (OfVersion (version_of owner.now)) line) set
+        ≡ gives_spec (line_of catalogue.now request (OfVersion (version_of owner.now)) line) set
         (version_of version.now)) }
 {
     let kept = catalogue.kept();

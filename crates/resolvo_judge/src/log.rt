@@ -5,7 +5,7 @@ ghost use Rattle.std.specs.Prelude.{◌≡◌, ◌+◌, ◌^◌, ◌<◌, [], �
 ghost use Rattle.resolvo_report.specs.Value.{ReportLine, InstallHead, RefusedHead, CatalogueLine, RequestLine};
 ghost use Rattle.resolvo_report.specs.View.{step_of};
 ghost use Rattle.resolvo_checker.specs.CheckStep.{causes_in, names_catalogue, names_request};
-ghost use Rattle.resolvo_checker.specs.Proof.{derives_empty as derives_empty_lem};
+ghost use Rattle.resolvo_checker.specs.Proof.{derives_empty};
 ghost use Rattle.resolvo_judge.specs.Refusal.{passes, has_rule};
 ghost use Rattle.resolvo_catalogue_core.specs.Grammar.{line_at};
 ghost use Rattle.resolvo_text.specs.Line.{Line};
@@ -68,7 +68,7 @@ pub fn refusal_log(
 }
 
 fn derives_empty(step: &Step) -> bool
-    ensures { result ≡ derives_empty_lem (step_of step.now) }
+    ensures { result ≡ derives_empty (step_of step.now) }
 {
     match step {
         Step::Derive { literals, .. } => literals.is_empty(),
