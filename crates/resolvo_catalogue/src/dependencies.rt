@@ -3,7 +3,7 @@
 ghost use Rattle.std.specs.Prelude.{◌≡◌, ◌≤◌, ◌+◌, ◌++◌, ◌∷◌, [], sum_by, IfOk, IsErrOf, OnOk, List, None, Option, Some};
 ghost use Rattle.resolvo_pool_core.specs.declared.want.Want.TheVariants.{Ids};
 
-use crate::id_table::IdTable;
+use crate::catalogue_ids::CatalogueIds;
 use resolvo_catalogue_core::{KeptLines, KeptRule, Request, Rule};
 use resolvo_pool_core::id::{StringId, VersionSetId};
 use resolvo_pool_core::requirement::ConditionalRequirement;
@@ -71,7 +71,7 @@ impl VersionDependencies {
     }
 
     /// Adds the requirement or constraint of a rule of a request, of which no other kind is one.
-    fn add(&mut self, ids: &mut IdTable<'_>, rule: &Rule) -> R<()>
+    fn add(&mut self, ids: &mut CatalogueIds<'_>, rule: &Rule) -> R<()>
         ensures as_ids { OnOk result
             ((versions : List Version) (line : Line) (lines : List Line)
             → IsRuleLine versions rule.now None line
@@ -102,7 +102,7 @@ impl VersionDependencies {
     /// The requirements and constraints of a request.
     pub fn of_request(
         alloc: Global,
-        ids: &mut IdTable<'_>,
+        ids: &mut CatalogueIds<'_>,
         request: &Request,
     ) -> R<VersionDependencies>
         ensures as_ids { IfOk result (λ deps. AreDependenciesOf ids.new request.now.lines (deps_of deps)) }

@@ -2,9 +2,9 @@
 #![tactic(auto)]
 
 mod candidate_flags;
+mod catalogue_ids;
 mod dependencies;
 pub mod dependency_provider;
-mod id_table;
 pub mod provider;
 mod request_terms;
 

@@ -9,8 +9,8 @@ ghost use Rattle.resolvo_terms.specs.TermCounts.{ids_for_dependency};
 ghost use Rattle.resolvo_catalogue.specs.Over.{IsOver};
 
 use crate::candidate_flags::{CandidateFlags, many_of, marks_of};
+use crate::catalogue_ids::CatalogueIds;
 use crate::dependencies::VersionDependencies;
-use crate::id_table::IdTable;
 use resolvo_catalogue_core::{Catalogue, KeptLines, Request, Spec, VersionNo};
 use resolvo_pool_core::id::{NameId, SolvableId, StringId, VersionSetId};
 use resolvo_pool_core::requirement::{ConditionalRequirement, Requirement};
@@ -28,7 +28,7 @@ pub enum Hint {
 
 /// A catalogue as a provider.
 pub struct CatalogueProvider<'a> {
-    pub(crate) ids: IdTable<'a>,
+    pub(crate) ids: CatalogueIds<'a>,
     /// The lines, by which the versions of a package and the dependencies of a version are found.
     pub(crate) kept: KeptLines<'a>,
     pub(crate) marks: Vec<CandidateFlags>,
@@ -106,7 +106,7 @@ impl<'a> CatalogueProvider<'a> {
         let kept = catalogue.kept();
         kept.lines_are_kept();
         catalogue.lines_are_in_place();
-        let ids = IdTable::over(alloc, &kept);
+        let ids = CatalogueIds::over(alloc, &kept);
         ids.ids_are_once();
         let marks = marks_of(alloc, &kept, catalogue)?;
         let many = many_of(alloc, &kept, catalogue)?;

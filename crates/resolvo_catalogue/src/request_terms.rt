@@ -1,6 +1,6 @@
 //! The terms of a catalogue, and those that a request adds. The catalogue's are lent, and copied before
 //! the first is added: a request that names nothing new needs no copy. The model is all of them.
-//! Used by `id_table`.
+//! Used by `catalogue_ids`.
 
 ghost use Rattle.std.specs.Prelude.{◌≡◌, ◌≤◌, ◌+◌, IfOk, IsErrOf};
 ghost use Rattle.std.specs.Option.{option_copied};

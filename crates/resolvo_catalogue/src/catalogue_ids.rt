@@ -24,23 +24,23 @@ use std::alloc::Global;
 use std::marker::Model;
 
 /// The interned values.
-pub struct IdTable<'a> {
+pub struct CatalogueIds<'a> {
     terms: RequestTerms<'a>,
     /// The versions of the catalogue in line order. A solvable's id is the place of its version.
     versions: &'a [KeptVersion],
 }
 
 // split for the prover: one drop
-impl<'a> Drop for IdTable<'a> {
+impl<'a> Drop for CatalogueIds<'a> {
     fn drop(self) {
-        let IdTable {
+        let CatalogueIds {
             terms: _,
             versions: _,
         } = self;
     }
 }
 
-impl<'a> Model for IdTable<'a> {
+impl<'a> Model for CatalogueIds<'a> {
     ghost use Rattle.std.specs.Prelude.{map};
     ghost use Rattle.resolvo_catalogue.specs.Ids.{Ids, solvable_by};
 
@@ -57,13 +57,13 @@ impl<'a> Model for IdTable<'a> {
         } };
 }
 
-impl<'a> IdTable<'a> {
+impl<'a> CatalogueIds<'a> {
     /// The terms and the versions of a catalogue.
-    pub fn over(alloc: Global, kept: &KeptLines<'a>) -> IdTable<'a>
+    pub fn over(alloc: Global, kept: &KeptLines<'a>) -> CatalogueIds<'a>
         ensures terms { terms_of result ≡ kept.now.terms }
         ensures solvables { result.solvables ≡ map solvable_by kept.now.versions }
     {
-        IdTable {
+        CatalogueIds {
             terms: RequestTerms::over(alloc, kept.terms()),
             versions: kept.versions(),
         }
@@ -101,7 +101,7 @@ impl<'a> IdTable<'a> {
     }
 }
 
-impl<'a> IdTable<'a> {
+impl<'a> CatalogueIds<'a> {
     ghost use Rattle.resolvo_catalogue.specs.Known.{solvable_at, set_at, members_of, condition_at, name_text, word_text};
 
     /// The package of a solvable. Calls of this kind answer for every id.
