@@ -596,7 +596,7 @@ fn repeat(
 /// The steps are numbered from 1. A step that is there already, whose clause may be longer than the
 /// step, has the clause of the earlier one. The clause of a `need` or `shared` step is built only as
 /// a later step names it.
-pub fn advance(
+pub fn check_step(
     alloc: Global,
     catalogue: &Catalogue,
     request: &Request,

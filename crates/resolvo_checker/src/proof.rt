@@ -13,7 +13,7 @@ ghost use Rattle.resolvo_checker.specs.CheckStep.{names_catalogue, names_request
 
 use crate::assignment::Assignment;
 use crate::atom_ids::AtomIds;
-use crate::check_step::{Checker, Premises, advance};
+use crate::check_step::{Checker, Premises, check_step};
 use crate::clauses::{Clauses, Readings};
 use crate::rule_steps::RuleSteps;
 use resolvo_catalogue_core::{Catalogue, Request};
@@ -114,7 +114,7 @@ fn check_from(
 {
     for at in 0..steps.len() {
         let step = &steps[at];
-        if !advance(alloc, catalogue, request, scope, checker, clauses, step)? {
+        if !check_step(alloc, catalogue, request, scope, checker, clauses, step)? {
             return Ok(Some(at));
         }
         clauses.name(causes_in(step));

@@ -13,7 +13,7 @@ ghost use Rattle.resolvo_judge.specs.Log.{KeepsLog, IfPassed, PassIsWithin, HasA
 
 use crate::named::{is_rule, name_in_catalogue, name_in_request};
 use resolvo_catalogue_core::{Catalogue, Request};
-use resolvo_checker::check_step::{Checker, Premises, advance};
+use resolvo_checker::check_step::{Checker, Premises, check_step};
 use resolvo_checker::clauses::Clauses;
 use resolvo_checker::proof::begin;
 use resolvo_report::Step;
@@ -102,7 +102,7 @@ pub fn take_step(
         clauses.new.readings) }
 {
     // split for the prover: error and answer
-    let fine = advance(
+    let fine = check_step(
         alloc,
         catalogue,
         request,

@@ -13,6 +13,6 @@ returns-clause-answer c = λ above n s.
 
 pub returns-clause-represents : goal.returns-clause-represents
 returns-clause-represents c = λ fine above n s.
-    subst (λ (b : Bool). LogInvariant c.args.catalogue.now c.args.request.now.lines c.advance.new.checker.numbers c.advance.new.clauses.kept c.advance.new.checker.places.items c.advance.new.checker.rules c.args.log.now.scope b (above ++ Numbered n (step_of c.args.step.now) ∷ [])) (sym c.derives_empty-log.ensures)
+    subst (λ (b : Bool). LogInvariant c.args.catalogue.now c.args.request.now.lines c.check_step.new.checker.numbers c.check_step.new.clauses.kept c.check_step.new.checker.places.items c.check_step.new.checker.rules c.args.log.now.scope b (above ++ Numbered n (step_of c.args.step.now) ∷ [])) (sym c.derives_empty-log.ensures)
     (step_more c.args.catalogue.now c.args.request.now.lines c.args.log.now.checker.numbers c.args.clauses.now.kept c.args.log.now.checker.places.items c.args.log.now.checker.rules c.args.log.now.scope c.args.log.now.ends_empty above s
-    c.advance.new.checker.numbers c.advance.new.clauses.kept c.advance.new.checker.places.items c.advance.new.checker.rules n (step_of c.args.step.now) (c.in_ok-fine.ensures.represents fine (steps_in above) s.steps))
+    c.check_step.new.checker.numbers c.check_step.new.clauses.kept c.check_step.new.checker.places.items c.check_step.new.checker.rules n (step_of c.args.step.now) (c.in_ok-fine.ensures.represents fine (steps_in above) s.steps))

@@ -8,7 +8,7 @@ use Rattle.resolvo_checker.specs.StepKeys.{IsKnownAt}
 use Rattle.resolvo_checker.specs.CheckStep.{names_catalogue, names_request, causes_in}
 use Rattle.resolvo_checker.proofs.StepKeyLemmas.{plain}
 use Rattle.resolvo_checker.proofs.CheckLemmas.{only_named, no_more, invariant_again}
-use Rattle.resolvo_checker.proofs.check_step.advance.Goals as goal
+use Rattle.resolvo_checker.proofs.check_step.check_step.Goals as goal
 
 pub returns-in-Some-clause-answer : goal.returns-in-Some-clause-answer
 returns-in-Some-clause-answer c = ok_map c.repeat.result c.repeat.ensures.answer (λ fine e earlier s.
