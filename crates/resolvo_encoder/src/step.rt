@@ -77,7 +77,7 @@ impl<N: Copy + Exact + Hash + Debug + Drop, S: Copy + Exact + Hash + Debug> Enco
     }
 
     /// Decides the next candidate. False where none is left.
-    fn choose_next<C: ScoreMap<N>>(&mut self, scores: &Scores<N, C>) -> R<bool>
+    fn decide_next<C: ScoreMap<N>>(&mut self, scores: &Scores<N, C>) -> R<bool>
         requires built { IsBuilt self.old }
         requires quiet { AreQuiet self.old }
         // After an answer.
@@ -158,7 +158,7 @@ impl<N: Copy + Exact + Hash + Debug + Drop, S: Copy + Exact + Hash + Debug> Enco
             StepResult::Refused(refusal) => Ok(Step::Refused(refusal)),
             StepResult::Learnt(clause) => Ok(Step::Learnt(clause)),
             StepResult::Complete => {
-                let has_chosen = self.choose_next(scores)?;
+                let has_chosen = self.decide_next(scores)?;
                 if has_chosen {
                     Ok(Step::Chosen)
                 } else {

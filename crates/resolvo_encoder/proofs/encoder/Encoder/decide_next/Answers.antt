@@ -10,7 +10,7 @@ use Rattle.resolvo_encoder.proofs.DecideLemmas.{choice_taken, none_picked}
 use Rattle.resolvo_encoder.proofs.BuildLemmas.{built_choice, built_rest}
 use Rattle.resolvo_encoder.proofs.StayLemmas.{digits_kept, choice_goes, choice_keeps, choice_gains, goes_then, synced_goes, synced_keeps}
 use Rattle.resolvo_encoder.proofs.Bases.{choice_first, first_same, first_then}
-use Rattle.resolvo_encoder.proofs.encoder.Encoder.choose_next.Goals as goal
+use Rattle.resolvo_encoder.proofs.encoder.Encoder.decide_next.Goals as goal
 
 pub choose-requires-clause-in_range : goal.choose-requires-clause-in_range
 choose-requires-clause-in_range g c =
