@@ -163,7 +163,7 @@ fn fire<A: PackageSource>(
 
 /// Assumes the turn's soft requirement, if there is one and it isn't true. Answers the conflict, if
 /// it is false.
-fn choose_first<N: Copy + Exact + Hash + Debug, S: Copy + Exact + Hash + Debug>(
+fn assume_first<N: Copy + Exact + Hash + Debug, S: Copy + Exact + Hash + Debug>(
     alloc: Global,
     encoding: &mut Encoder<N, S>,
     soft: Option<VariableId>,
@@ -230,14 +230,14 @@ fn begin_search<N: Copy + Exact + Hash + Debug, S: Copy + Exact + Hash + Debug>(
     // After a refusal.
     ensures refusal { IsOkUnless result Memory }
 {
-    if let Some(refusal) = choose_first(alloc, encoding, soft)? {
+    if let Some(refusal) = assume_first(alloc, encoding, soft)? {
         return Ok(Some(refusal));
     }
     // before propagation: the soft requirement's entry is the last one
     scan.go_back(encoding);
     undo_falsified(encoding, soft)?;
     // split for the prover: error and answer
-    let refusal = choose_first(alloc, encoding, soft)?;
+    let refusal = assume_first(alloc, encoding, soft)?;
     scan.go_back(encoding);
     Ok(refusal)
 }
