@@ -125,12 +125,12 @@ impl<N: Copy + Exact + Hash + Debug + Drop, S: Copy + Exact + Hash + Debug> Enco
         ensures refusal { IsOkUnless result Memory }
     {
         let falsified = self.coding.propagate()?;
-        Ok(self.is_above_first(falsified))
+        Ok(self.is_above_base(falsified))
     }
 
     /// Whether there is a falsified clause, and a literal of it got its value above the turn's base
     /// level.
-    fn is_above_first(&self, falsified: Option<ClauseId>) -> bool
+    fn is_above_base(&self, falsified: Option<ClauseId>) -> bool
         requires { IfSome falsified (λ c. c.0 < length self.now.coding.search.clauses) }
     {
         let Some(clause) = falsified else {
