@@ -113,7 +113,7 @@ impl<N: Copy + Exact + Hash + Debug + Drop, S: Copy + Exact + Hash + Debug> Enco
 
     /// Records a condition's package, and adds the at-least-one clauses of its registered
     /// solvables.
-    pub(crate) fn track_at_least_one(&mut self, alloc: Global, name: N) -> R<()>
+    pub(crate) fn record_at_least_one(&mut self, alloc: Global, name: N) -> R<()>
         requires { IsBuilt self.old }
         ensures at_least_one { OnOk result (TracksAtLeastOne S.eq name self.old self.new) }
         ensures ids { IsErrOf result Ids → LacksNumber self.new.coding }
@@ -127,7 +127,7 @@ impl<N: Copy + Exact + Hash + Debug + Drop, S: Copy + Exact + Hash + Debug> Enco
     }
 
     /// Names a package of a case: its at-least-one clauses come at the encoding's end.
-    fn name_package(&mut self, name: N) -> R<()>
+    fn queue_package(&mut self, name: N) -> R<()>
         requires { IsBuilt self.old }
         ensures named { OnOk result (NamesPackage S.eq name self.old self.new) }
         ensures refusal { IsOkUnless result Memory }
@@ -152,7 +152,7 @@ impl<N: Copy + Exact + Hash + Debug + Drop, S: Copy + Exact + Hash + Debug> Enco
             let literals = self.matches_literals(alloc, set)?;
             return Ok(literals);
         }
-        self.name_package(set.name)?;
+        self.queue_package(set.name)?;
         let any = self.give(ProofAtom::AtLeastOne(set.name))?;
         let candidates = self.register(alloc, set.outside.as_slice())?;
         // split for the prover: error and answer

@@ -33,7 +33,7 @@ impl<N: Copy + Exact + Hash + Debug + Drop, S: Copy + Exact + Hash + Debug> Enco
         ensures ids { IsErrOf result Ids → LacksNumber self.new.coding }
     {
         self.place_queued(alloc)?;
-        self.cover_queued(alloc)?;
+        self.add_of_queued(alloc)?;
         Ok(())
     }
 
@@ -112,17 +112,17 @@ impl<N: Copy + Exact + Hash + Debug + Drop, S: Copy + Exact + Hash + Debug> Enco
         ensures ids { IsErrOf result Ids → LacksNumber self.new.coding }
     {
         if self.registry.is_many(one.name) {
-            self.admit_one(one)?;
+            self.add_if_recorded(one)?;
             return Ok(());
         }
         self.registry
             .place(&mut self.coding, one.name, one.solvable)?;
-        self.admit_one(one)?;
+        self.add_if_recorded(one)?;
         Ok(())
     }
 
     /// Adds the at-least-one clause of a solvable, if its package is recorded.
-    fn admit_one(&mut self, one: Offered<N, S>) -> R<()>
+    fn add_if_recorded(&mut self, one: Offered<N, S>) -> R<()>
         requires { IsBuilt self.old }
         ensures admitted { OnOk result (Admits S.eq (one ∷ []) self.old self.new) }
         ensures ids { IsErrOf result Ids → LacksNumber self.new.coding }
@@ -134,18 +134,18 @@ impl<N: Copy + Exact + Hash + Debug + Drop, S: Copy + Exact + Hash + Debug> Enco
     }
 
     /// Adds the at-least-one clauses of the packages of new cases.
-    fn cover_queued(&mut self, alloc: Global) -> R<()>
+    fn add_of_queued(&mut self, alloc: Global) -> R<()>
         requires { IsBuilt self.old }
         ensures covered { OnOk result (CoversQueued S.eq self.old self.new) }
         ensures ids { IsErrOf result Ids → LacksNumber self.new.coding }
     {
-        self.cover_each(alloc)?;
+        self.add_of_each(alloc)?;
         self.recorded.queued.clear();
         Ok(())
     }
 
     /// Records each package of a new case, and adds its at-least-one clauses.
-    fn cover_each(&mut self, alloc: Global) -> R<()>
+    fn add_of_each(&mut self, alloc: Global) -> R<()>
         requires { IsBuilt self.old }
         ensures covered { OnOk result
             (CoversAll S.eq self.old.recorded.queued.keys self.old self.new) }
@@ -155,7 +155,7 @@ impl<N: Copy + Exact + Hash + Debug + Drop, S: Copy + Exact + Hash + Debug> Enco
         for place in 0..count {
             let queued = self.recorded.queued.as_slice();
             let name = queued[place];
-            self.track_at_least_one(alloc, name)?;
+            self.record_at_least_one(alloc, name)?;
         }
         Ok(())
     }

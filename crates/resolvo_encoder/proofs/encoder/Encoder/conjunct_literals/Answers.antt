@@ -25,5 +25,5 @@ returns-clause-at_least_one g c =
     let exact : IsExact g.S.PartialEq.eq = record { one = g.met.S.Exact.exact; own = g.met.S.Eq.laws.refl } in
     let enrols = subst (λ (xs : List (Offered _ _)). Enrols g.S.PartialEq.eq xs c.in_ok-candidates.candidates.items c.give.new.self c.register.new.self) c.as_slice.ensures.value c.in_ok-candidates.ensures.enrolled in
     let literals = c.in_ok-literals-2.ensures.literals ∙ ap (λ (xs : List (Candidate _)). no c.in_ok-any.any ∷ candidate_literals xs) c.as_slice-2.ensures.value in
-    set_literals g.S.PartialEq.eq exact c.args.set.now c.in_ok-any.any c.in_ok-candidates.candidates.items c.in_ok-literals-2.literals.items c.args.self.now c.name_package.new.self c.give.new.self c.register.new.self
-    c.if-set.false c.in_ok-name_package.ensures.named c.in_ok-any.ensures.encodes c.in_ok-any.ensures.present enrols literals
+    set_literals g.S.PartialEq.eq exact c.args.set.now c.in_ok-any.any c.in_ok-candidates.candidates.items c.in_ok-literals-2.literals.items c.args.self.now c.queue_package.new.self c.give.new.self c.register.new.self
+    c.if-set.false c.in_ok-queue_package.ensures.named c.in_ok-any.ensures.encodes c.in_ok-any.ensures.present enrols literals

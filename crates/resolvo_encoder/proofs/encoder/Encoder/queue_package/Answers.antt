@@ -1,7 +1,7 @@
 use Rattle.std.proofs.Common.{refl, sym}
 use Rattle.resolvo_sat.specs.RuleClauses.{IsExact}
 use Rattle.resolvo_encoder.proofs.CaseLiterals.{named_known, package_named}
-use Rattle.resolvo_encoder.proofs.encoder.Encoder.name_package.Goals as goal
+use Rattle.resolvo_encoder.proofs.encoder.Encoder.queue_package.Goals as goal
 
 pub returns-then-contains-clause-named : goal.returns-then-contains-clause-named
 returns-then-contains-clause-named g c =

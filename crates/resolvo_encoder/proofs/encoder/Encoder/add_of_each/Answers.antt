@@ -3,7 +3,7 @@ use Rattle.std.proofs.lemmas.List.{take_more, take_all}
 use Rattle.resolvo_sat.specs.RuleClauses.{IsExact}
 use Rattle.resolvo_encoder.specs.AtLeastOneClauses.{CoversAll}
 use Rattle.resolvo_encoder.proofs.PlaceLemmas.{covers_none, covers_more}
-use Rattle.resolvo_encoder.proofs.encoder.Encoder.cover_each.Goals as goal
+use Rattle.resolvo_encoder.proofs.encoder.Encoder.add_of_each.Goals as goal
 
 pub loop-place-init : goal.loop-place-init
 loop-place-init g c =
@@ -16,8 +16,8 @@ bounds-queued-place g c =
     let long : length c.as_slice-queued.result.now ≡ length c.args.self.now.recorded.queued.keys = ap length (c.as_slice-queued.ensures.keys ∙ ap (λ ks. ks.keys) c.loop-place.invariant.queued) in
     omega (arith, count, long, c.loop-place-test.true)
 
-pub track_at_least_one-requires : goal.track_at_least_one-requires
-track_at_least_one-requires g c = c.loop-place.invariant.built
+pub record_at_least_one-requires : goal.record_at_least_one-requires
+record_at_least_one-requires g c = c.loop-place.invariant.built
 
 pub loop-place-preserved : goal.loop-place-preserved
 loop-place-preserved g c =
@@ -29,8 +29,8 @@ loop-place-preserved g c =
     let below : i < length xs = omega (arith, count, c.loop-place-test.true) in
     let same : c.as_slice-queued.result.now ≡ xs = c.as_slice-queued.ensures.keys ∙ ap (λ ks. ks.keys) c.loop-place.invariant.queued in
     let more : take (i + 1) xs ≡ take i xs ++ name ∷ [] = take_more xs i name below ∙ ap (λ x. take i xs ++ x ∷ []) (sym (c.index-queued-place.is ∙ ap (λ (ys : List _). get_or ys i name) same)) in
-    subst (λ (ys : List _). CoversAll g.S.PartialEq.eq ys c.args.self.now c.track_at_least_one.new.self) (sym more)
-    (covers_more g.S.PartialEq.eq exact (take i xs) name c.args.self.now c.loop-place.self c.track_at_least_one.new.self c.loop-place.invariant c.in_ok-track_at_least_one.ensures.at_least_one)
+    subst (λ (ys : List _). CoversAll g.S.PartialEq.eq ys c.args.self.now c.record_at_least_one.new.self) (sym more)
+    (covers_more g.S.PartialEq.eq exact (take i xs) name c.args.self.now c.loop-place.self c.record_at_least_one.new.self c.loop-place.invariant c.in_ok-record_at_least_one.ensures.at_least_one)
 
 pub returns-clause-covered : goal.returns-clause-covered
 returns-clause-covered g c =

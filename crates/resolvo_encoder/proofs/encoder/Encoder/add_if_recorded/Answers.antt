@@ -1,7 +1,7 @@
 use Rattle.std.proofs.lemmas.Bool.{both_ways}
 use Rattle.resolvo_sat.specs.RuleClauses.{IsExact}
 use Rattle.resolvo_encoder.proofs.CaseLiterals.{admits_other}
-use Rattle.resolvo_encoder.proofs.encoder.Encoder.admit_one.Goals as goal
+use Rattle.resolvo_encoder.proofs.encoder.Encoder.add_if_recorded.Goals as goal
 
 pub returns-else-contains-clause-admitted : goal.returns-else-contains-clause-admitted
 returns-else-contains-clause-admitted g c =

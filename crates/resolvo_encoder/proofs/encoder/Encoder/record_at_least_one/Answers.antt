@@ -2,7 +2,7 @@ use Rattle.std.proofs.Common.{refl}
 use Rattle.resolvo_sat.specs.RuleClauses.{IsExact}
 use Rattle.resolvo_encoder.proofs.CaseLiterals.{package_known, package_tracked}
 use Rattle.resolvo_encoder.proofs.Parents.{prefix_contains}
-use Rattle.resolvo_encoder.proofs.encoder.Encoder.track_at_least_one.Goals as goal
+use Rattle.resolvo_encoder.proofs.encoder.Encoder.record_at_least_one.Goals as goal
 
 pub returns-then-contains-clause-at_least_one : goal.returns-then-contains-clause-at_least_one
 returns-then-contains-clause-at_least_one g c =

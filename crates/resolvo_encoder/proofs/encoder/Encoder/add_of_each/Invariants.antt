@@ -1,6 +1,6 @@
 use Rattle.std.proofs.Common.{take}
 use Rattle.resolvo_encoder.specs.AtLeastOneClauses.{CoversAll}
-use Rattle.resolvo_encoder.proofs.encoder.Encoder.cover_each.Given as goal
+use Rattle.resolvo_encoder.proofs.encoder.Encoder.add_of_each.Given as goal
 
 -- the packages so far are recorded
 abbrev pub invariant-loop-place : goal.invariant-loop-place
