@@ -17,7 +17,7 @@ ghost use Rattle.resolvo_turn.specs.LacksIds.{StopsAnyhow, StopsInOrder};
 ghost use Rattle.resolvo_turn.specs.TurnRules.{StaysInOrderOf, StopsInOrderOf};
 ghost use Rattle.resolvo_turn.specs.Tasks.{bound, cost, Excludes, KeepsExcluded};
 
-use crate::fire_conditions::{fire_if_due, match_case};
+use crate::fire_conditions::{encode_case_matches, fire_if_due};
 use crate::rules::encode_rules;
 use crate::tasks::{Task, Tasks};
 use crate::turn_input::TurnInput;
@@ -165,7 +165,7 @@ fn ask_or_fire<A: PackageSource>(
         }
         Task::Rules => Ok(true),
         Task::Matches(place) => {
-            match_case(alloc, answers, encoding, place)?;
+            encode_case_matches(alloc, answers, encoding, place)?;
             Ok(false)
         }
         Task::Case(place) => {

@@ -198,7 +198,7 @@ fn names_many<A: PackageSource>(
 }
 
 /// Encodes the matches of a version set of a case, if its package is marked `many`.
-fn match_set<N: Copy + Exact + Hash + Debug + Drop, S: Copy + Exact + Hash + Debug>(
+fn encode_set_matches<N: Copy + Exact + Hash + Debug + Drop, S: Copy + Exact + Hash + Debug>(
     encoding: &mut Encoder<N, S>,
     set: &ConditionSet<N, S>,
 ) -> R<()>
@@ -215,7 +215,7 @@ fn match_set<N: Copy + Exact + Hash + Debug + Drop, S: Copy + Exact + Hash + Deb
 }
 
 /// The same for each version set of a case.
-fn match_sets<N: Copy + Exact + Hash + Debug + Drop, S: Copy + Exact + Hash + Debug>(
+fn encode_sets_matches<N: Copy + Exact + Hash + Debug + Drop, S: Copy + Exact + Hash + Debug>(
     encoding: &mut Encoder<N, S>,
     sets: &[ConditionSet<N, S>],
 ) -> R<()>
@@ -224,7 +224,7 @@ fn match_sets<N: Copy + Exact + Hash + Debug + Drop, S: Copy + Exact + Hash + De
     ensures ids { IsErrOf result WantIds → LacksNumber encoding.new.coding }
 {
     for set in sets {
-        match_set(encoding, set)?;
+        encode_set_matches(encoding, set)?;
     }
     Ok(())
 }
@@ -256,12 +256,12 @@ fn encode_matches<A: PackageSource>(
         return Ok(());
     }
     forbid_named(answers, encoding, need.requirement)?;
-    match_sets(encoding, sets)?;
+    encode_sets_matches(encoding, sets)?;
     Ok(())
 }
 
 /// Encodes the matches of the deferred case at this place.
-fn match_deferred<A: PackageSource>(
+fn encode_deferred_matches<A: PackageSource>(
     alloc: Global,
     answers: &mut A,
     encoding: &mut Encoder<A::NameId, A::SolvableId>,
@@ -292,7 +292,7 @@ fn match_deferred<A: PackageSource>(
 
 /// Encodes the matches of the deferred case at this place, if it names a package that is marked
 /// `many`.
-pub(crate) fn match_case<A: PackageSource>(
+pub(crate) fn encode_case_matches<A: PackageSource>(
     alloc: Global,
     answers: &mut A,
     encoding: &mut Encoder<A::NameId, A::SolvableId>,
@@ -318,7 +318,7 @@ pub(crate) fn match_case<A: PackageSource>(
     if !names_many(answers, deferred.conjuncts.as_slice())? {
         return Ok(());
     }
-    match_deferred(alloc, answers, encoding, index)?;
+    encode_deferred_matches(alloc, answers, encoding, index)?;
     Ok(())
 }
 

@@ -28,16 +28,16 @@ returns-in_ok-push_parents-in-Case-clause-bound g c = λ ends.
     let fewer : bound c.push_parents.new.self ≤ bound c.args.tasks.now = c.in_ok-push_parents-in-Case.ensures.bound in
     omega arith
 
-pub returns-in_ok-match_case-in-Matches-clause-bound : goal.returns-in_ok-match_case-in-Matches-clause-bound
+pub returns-in_ok-encode_case_matches-in-Matches-clause-bound : goal.returns-in_ok-encode_case_matches-in-Matches-clause-bound
 unfolding cost
-returns-in_ok-match_case-in-Matches-clause-bound g c = λ ends.
+returns-in_ok-encode_case_matches-in-Matches-clause-bound g c = λ ends.
     let one : cost c.args.task ≡ 1 = ap (λ (t : Task _). cost t) c.in-Matches.is in
     omega arith
 
-pub returns-in_ok-match_case-in-Matches-clause-excluded : goal.returns-in_ok-match_case-in-Matches-clause-excluded
-returns-in_ok-match_case-in-Matches-clause-excluded g c = λ root e before. excluded_stays c.args.excluded.now.keys c.args.encoding.now c.match_case.new.encoding c.in_ok-match_case-in-Matches.ensures.kept.grows before
+pub returns-in_ok-encode_case_matches-in-Matches-clause-excluded : goal.returns-in_ok-encode_case_matches-in-Matches-clause-excluded
+returns-in_ok-encode_case_matches-in-Matches-clause-excluded g c = λ root e before. excluded_stays c.args.excluded.now.keys c.args.encoding.now c.encode_case_matches.new.encoding c.in_ok-encode_case_matches-in-Matches.ensures.kept.grows before
 
-pub returns-in_err-match_case-in-Matches-clause-ids : goal.returns-in_err-match_case-in-Matches-clause-ids
-returns-in_err-match_case-in-Matches-clause-ids g c = λ is root e.
-    let stops : StopsAnyhow g.A.SolvableId.PartialEq.eq g.A.PackageSource c.args.answers.now c.match_case.new.encoding = search (rules, is) in
+pub returns-in_err-encode_case_matches-in-Matches-clause-ids : goal.returns-in_err-encode_case_matches-in-Matches-clause-ids
+returns-in_err-encode_case_matches-in-Matches-clause-ids g c = λ is root e.
+    let stops : StopsAnyhow g.A.SolvableId.PartialEq.eq g.A.PackageSource c.args.answers.now c.encode_case_matches.new.encoding = search (rules, is) in
     stops root

@@ -2,7 +2,7 @@ use Rattle.std.proofs.Common.{[], ◌∷◌, List, subst}
 use Rattle.resolvo_packages.specs.declared.package_source.Offered.{Offered}
 use Rattle.resolvo_encoder.specs.AtLeastOneClauses.{HoldsMatches}
 use Rattle.resolvo_turn.proofs.MatchSets.{sets_none, set_held}
-use Rattle.resolvo_turn.proofs.fire_conditions.match_set.Goals as goal
+use Rattle.resolvo_turn.proofs.fire_conditions.encode_set_matches.Goals as goal
 
 pub returns-then-not-set-clause-matches : goal.returns-then-not-set-clause-matches
 returns-then-not-set-clause-matches g c = sets_none g.S.PartialEq.eq (c.args.set.now ∷ []) c.args.encoding.now c.requires

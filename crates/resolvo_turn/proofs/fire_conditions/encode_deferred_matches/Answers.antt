@@ -10,7 +10,7 @@ use Rattle.resolvo_turn.specs.Encoder.{StaysInOrder}
 use Rattle.resolvo_turn.specs.LacksIds.{LacksIds, StopsAnyhow}
 use Rattle.resolvo_turn.specs.Matches.{MatchesCase}
 use Rattle.resolvo_turn.proofs.CaseEncoded.{deferred_matched}
-use Rattle.resolvo_turn.proofs.fire_conditions.match_deferred.Goals as goal
+use Rattle.resolvo_turn.proofs.fire_conditions.encode_deferred_matches.Goals as goal
 
 pub returns-clause-same : goal.returns-clause-same
 returns-clause-same g c = c.encode_matches-done.ensures.same ∙ c.in_ok-sets.ensures.same

@@ -1,6 +1,6 @@
 use Rattle.std.proofs.Common.{take}
 use Rattle.resolvo_turn.specs.Matches.{MatchesSets}
-use Rattle.resolvo_turn.proofs.fire_conditions.match_sets.Given as goal
+use Rattle.resolvo_turn.proofs.fire_conditions.encode_sets_matches.Given as goal
 
 -- the matches of the version sets so far are clauses
 abbrev pub invariant-loop-set : goal.invariant-loop-set
