@@ -1,7 +1,7 @@
 //! Why a request is unsolvable: the conflict graph, merged versions, and the message.
 #![tactic(auto)]
 
-mod above;
+mod ancestors;
 mod count;
 mod display_line;
 pub mod display_unsat;

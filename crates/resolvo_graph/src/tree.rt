@@ -16,7 +16,7 @@ ghost use Rattle.resolvo_graph.specs.Walk.{is_among};
 ghost use Rattle.resolvo_graph.specs.Runs.{runs_of};
 ghost use Rattle.resolvo_graph.specs.Tree.{siblings, is_missing, candidates_at, reason_in, is_admitting, admitted_in, same_set, verdict_in, admitted_lines, further_lines, outlook_of, shown_of, covered_with, is_covered, firsts_after, in_rank, verdict_of, needs_of, is_passed, lines_with, version_lines, lines_at, entries_below, covered_after, IsTree, solvable_at_node, order_before};
 
-use crate::above::Above;
+use crate::ancestors::Above;
 use crate::display_line::{MessageLine, Outlook, Sentence, Verdict, Versions};
 use crate::graph::{ConflictGraph, ConflictNode, Edge, NodeIndex};
 use crate::indenter::{ChildOrder, Indenter};
