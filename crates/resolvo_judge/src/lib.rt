@@ -12,7 +12,7 @@ mod judgement;
 mod kept_reasons;
 mod laws;
 mod log;
-mod named;
+mod named_lines;
 mod versions;
 
 pub use judgement::{JudgeFault, Judged, Verdict, judge, judge_counted};

@@ -11,7 +11,7 @@ ghost use Rattle.resolvo_catalogue_core.specs.Grammar.{line_at};
 ghost use Rattle.resolvo_text.specs.Line.{Line};
 ghost use Rattle.resolvo_judge.specs.Log.{KeepsLog, IfPassed, PassIsWithin, HasAllPlaces, DecidesStep, AddsStep, AddsNamed, ReadsMore};
 
-use crate::named::{is_rule, name_in_catalogue, name_in_request};
+use crate::named_lines::{is_rule, name_in_catalogue, name_in_request};
 use resolvo_catalogue_core::{Catalogue, Request};
 use resolvo_checker::check_step::{Checker, Premises, check_step};
 use resolvo_checker::clauses::Clauses;

@@ -1,6 +1,6 @@
 use Rattle.std.proofs.Common.{◌≡◌, ◌≤◌, ℕ, vec_len}
 use Rattle.resolvo_checker.specs.CheckStep.{flag_at}
-use Rattle.resolvo_judge.proofs.named.reach.Given as goal
+use Rattle.resolvo_judge.proofs.named_lines.reach.Given as goal
 
 abbrev pub invariant-loop : goal.invariant-loop
 invariant-loop l = record {
