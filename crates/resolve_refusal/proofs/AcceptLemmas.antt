@@ -24,9 +24,9 @@ use Rattle.resolvo_checker.specs.Proof.{is_valid_step, is_named, ends_empty}
 use Rattle.resolvo_judge.specs.Refusal.{catalogue_line_in, request_line_in, step_in, catalogue_lines_in, request_lines_in, steps_in, has_rule, passes, ArePassed, IsAccepted}
 use Rattle.resolvo_judge.specs.Judgement.{IsClaimTrue}
 use Rattle.resolvo_judge.proofs.JudgeLemmas.{claim_true}
-use Rattle.resolve_refusal.specs.declared.named.Text.{Text}
+use Rattle.resolve_refusal.specs.declared.named_lines.Text.{Text}
 use Rattle.resolve_refusal.specs.declared.report.Refusal.{Refusal}
-use Rattle.resolve_refusal.specs.declared.named.Text.TheVariants as text
+use Rattle.resolve_refusal.specs.declared.named_lines.Text.TheVariants as text
 use Rattle.resolve_refusal.specs.Named.{line_in, IsNamedBy}
 use Rattle.resolve_refusal.specs.Refusal.{IsWrittenAs, Refutes}
 use Rattle.resolve_refusal.specs.Parts.{IsRefusalOf, IsRefusedBy, report_with}

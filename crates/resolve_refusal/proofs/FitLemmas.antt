@@ -31,8 +31,8 @@ use Rattle.resolvo_report.specs.Text as form_of
 use Rattle.resolvo_report.specs.Grammar.{IsReport}
 use Rattle.resolvo_report.specs.View.{steps_of}
 use Rattle.resolvo_checker.specs.StepClauses as judge
-use Rattle.resolve_refusal.specs.declared.named.Text.{Text}
-use Rattle.resolve_refusal.specs.declared.named.Text.TheVariants as text
+use Rattle.resolve_refusal.specs.declared.named_lines.Text.{Text}
+use Rattle.resolve_refusal.specs.declared.named_lines.Text.TheVariants as text
 use Rattle.resolve_refusal.specs.declared.report.Refusal.{Refusal}
 use Rattle.resolve_refusal.specs.Named.{IsNamedBy}
 use Rattle.resolve_refusal.specs.RefusedReport.{version_at, place_at}

@@ -32,8 +32,8 @@ use Rattle.resolvo_checker.specs.StepClauses as judge
 use Rattle.resolvo_checker.specs.Rup.{is_earlier}
 use Rattle.resolvo_checker.specs.Proof.{rests_on_named, allows_place, cause_of, follows, is_valid_step, ends_empty, derives_empty}
 use Rattle.resolvo_checker.proofs.Sets.{same_is}
-use Rattle.resolve_refusal.specs.declared.named.Text.{Text}
-use Rattle.resolve_refusal.specs.declared.named.Text.TheVariants as text
+use Rattle.resolve_refusal.specs.declared.named_lines.Text.{Text}
+use Rattle.resolve_refusal.specs.declared.named_lines.Text.TheVariants as text
 use Rattle.resolve_refusal.specs.Named.{line_in, in_catalogue}
 use Rattle.resolve_refusal.specs.Named as named
 use Rattle.resolve_refusal.specs.RefusedReport.{version_at, place_at}

@@ -34,7 +34,7 @@ use Rattle.resolvo_catalogue.proofs.RulesKept.{found_in, listing_is, locked_by, 
 use Rattle.std.proofs.lemmas.Option.{slice_get-get_or, slice_get_within, get_or_from_slice_get, unwrap_or-slice_get}
 use Rattle.resolvo_report.specs.Value as in_report
 use Rattle.resolvo_checker.specs.StepClauses as judge
-use Rattle.resolve_refusal.specs.declared.named.Text.{Text}
+use Rattle.resolve_refusal.specs.declared.named_lines.Text.{Text}
 use Rattle.resolve_refusal.specs.Named.{line_in, in_catalogue}
 use Rattle.resolve_refusal.specs.Lines.{locks, ForbidsAs, ExcludesAt, IsForbidLine, IsForbidLineOf, IsFree, IsLeast, IsLineOf, MarksUnknownAt, IsLineAt}
 use Rattle.resolve_refusal.specs.declared.lines.ForbidLine.{ForbidLine}

@@ -8,7 +8,7 @@ use Rattle.resolvo_catalogue_core.specs.Questions.{AreAll}
 use Rattle.resolvo_catalogue_core.proofs.Pushed.{Grows, all_new}
 use Rattle.resolvo_sat.proofs.Lists.{contains_none, contains_one, contains_left, contains_right, contains_parts, contains_first}
 use Rattle.resolvo_report.specs.Value.{Step}
-use Rattle.resolve_refusal.specs.declared.named.Text.{Text}
+use Rattle.resolve_refusal.specs.declared.named_lines.Text.{Text}
 use Rattle.resolve_refusal.specs.Named.{line_in, RestsOn, IsNamedBy, IsFlagged, IsFlaggedLine, AreFlagged}
 
 -- the same lines have another description

@@ -3,8 +3,8 @@ use Rattle.std.specs.Prelude.{◌≡◌, ℕ, suc, ◌<◌, Bool, true, List, le
 use Rattle.resolvo_text.specs.Line.{Line}
 use Rattle.resolvo_catalogue_core.specs.Questions.{AreAll}
 use Rattle.resolvo_report.specs.Value.{Place, OfRequest, OfVersion, Step, Need, Gate, Shared, LimitBars, Limit, Outside, Matches, Lock, Exclude, Unknown, Digit, Any, Derive}
-use Rattle.resolve_refusal.specs.declared.named.Text.{Text}
-use Rattle.resolve_refusal.specs.declared.named.Text.TheVariants as text
+use Rattle.resolve_refusal.specs.declared.named_lines.Text.{Text}
+use Rattle.resolve_refusal.specs.declared.named_lines.Text.TheVariants as text
 
 -- the line, if it is one of the catalogue
 abbrev pub in_catalogue : Text → ℕ → Option ℕ

@@ -12,7 +12,7 @@ use Rattle.resolvo_report.specs.Grammar.{IsReport}
 use Rattle.resolvo_report.specs.View.{steps_of}
 use Rattle.resolvo_judge.specs.Judgement.{IsClaimTrue}
 use Rattle.resolvo_judge.specs.Refusal.{IsAccepted}
-use Rattle.resolve_refusal.specs.declared.named.Text.TheVariants as text
+use Rattle.resolve_refusal.specs.declared.named_lines.Text.TheVariants as text
 use Rattle.resolve_refusal.specs.declared.report.Refusal.{Refusal}
 use Rattle.resolve_refusal.specs.Named.{IsNamedBy, AreUsedLines}
 use Rattle.resolve_refusal.specs.RefusedReport.{IsWritten}

@@ -10,7 +10,7 @@ mod install;
 mod line_index;
 mod lines;
 mod literals;
-mod named;
+mod named_lines;
 mod report;
 mod rule_keys;
 mod steps;

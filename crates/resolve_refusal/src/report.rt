@@ -13,7 +13,7 @@ ghost use Rattle.resolve_refusal.specs.Parts.{IsRefusalOf, IsRefusedBy, report_w
 
 use crate::line_index::line_index;
 use crate::lines::Texts;
-use crate::named::{Text, named_lines};
+use crate::named_lines::{Text, named_lines};
 use crate::steps::{MOST_STEPS, Writing};
 use resolvo_catalogue::provider::CatalogueProvider;
 use resolvo_catalogue_core::{Catalogue, Request};

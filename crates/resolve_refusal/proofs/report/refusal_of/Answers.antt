@@ -2,7 +2,7 @@ use Rattle.std.proofs.Common.{◌≡◌, ◌≤◌, ◌<◌, ℕ, List, ap, subs
 use Rattle.resolvo_catalogue_core.specs.Questions.{AreAll}
 use Rattle.resolvo_report.specs.Value.{Step}
 use Rattle.resolvo_report.specs.View.{steps_of}
-use Rattle.resolve_refusal.specs.declared.named.Text.TheVariants as text
+use Rattle.resolve_refusal.specs.declared.named_lines.Text.TheVariants as text
 use Rattle.resolve_refusal.specs.LacksNumbers.{LacksNumbers}
 use Rattle.resolve_refusal.specs.Named.{IsNamedBy}
 use Rattle.resolve_refusal.proofs.FitLemmas.{refusal}

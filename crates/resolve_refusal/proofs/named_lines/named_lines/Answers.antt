@@ -3,7 +3,7 @@ use Rattle.resolvo_catalogue_core.specs.Questions.{AreAll}
 use Rattle.resolvo_report.specs.View.{steps_of}
 use Rattle.resolve_refusal.specs.Named.{IsFlaggedLine}
 use Rattle.resolve_refusal.proofs.NameLemmas.{flagged_named}
-use Rattle.resolve_refusal.proofs.named.named_lines.Goals as goal
+use Rattle.resolve_refusal.proofs.named_lines.named_lines.Goals as goal
 
 pub returns-clause-lines : goal.returns-clause-lines
 returns-clause-lines c =

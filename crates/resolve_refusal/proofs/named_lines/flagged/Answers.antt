@@ -4,8 +4,8 @@ use Rattle.std.proofs.lemmas.Option.{slice_get-get_or, get_or_from_slice_get}
 use Rattle.resolvo_catalogue_core.specs.Questions.{AreAll}
 use Rattle.resolve_refusal.specs.Named.{IsFlaggedLine}
 use Rattle.resolve_refusal.proofs.NameLemmas.{lines_more, lines_skip}
-use Rattle.resolve_refusal.proofs.named.flagged.Goals as goal
-use Rattle.resolve_refusal.proofs.named.flagged.Goals.{then-flag+in_ok-push, else-flag}
+use Rattle.resolve_refusal.proofs.named_lines.flagged.Goals as goal
+use Rattle.resolve_refusal.proofs.named_lines.flagged.Goals.{then-flag+in_ok-push, else-flag}
 
 pub loop-index-preserved : goal.loop-index-preserved
 loop-index-preserved c =

@@ -5,8 +5,8 @@ use Rattle.resolvo_report.specs.declared.step.Step.{Step}
 use Rattle.resolvo_report.specs.View.{step_of, steps_of}
 use Rattle.resolve_refusal.specs.Named.{AreFlagged}
 use Rattle.resolve_refusal.proofs.NameLemmas.{flagged_more, flagged_skip}
-use Rattle.resolve_refusal.proofs.named.flag_lines.Goals as goal
-use Rattle.resolve_refusal.proofs.named.flag_lines.Goals.{in-Some, in_default}
+use Rattle.resolve_refusal.proofs.named_lines.flag_lines.Goals as goal
+use Rattle.resolve_refusal.proofs.named_lines.flag_lines.Goals.{in-Some, in_default}
 
 pub loop-step-preserved : goal.loop-step-preserved
 loop-step-preserved c =
