@@ -20,7 +20,7 @@ use crate::clause_parts::{
     Clause, push_any, push_bit, push_case, push_match, push_matches, push_outside, push_shared,
     push_version,
 };
-use crate::of_line::{need_of, rule_asked, rule_at, rule_of, rule_owned};
+use crate::line_rule::{need_of, rule_asked, rule_at, rule_of, rule_owned};
 use resolvo_catalogue_core::{
     Catalogue, Cond, KeptRule, Request, Rule, Spec, Version, VersionNo, Versions, found, is_in_span,
 };

@@ -2,7 +2,7 @@
 //! a long line. It is only a hint: no answer depends on it.
 
 use resolvo_catalogue_core::{Catalogue, Request, Rule, Span, Spec, Version};
-use resolvo_checker::of_line::{need_of, rule_asked};
+use resolvo_checker::line_rule::{need_of, rule_asked};
 use resolvo_pool_core::id::VersionSetId;
 use resolvo_pool_core::requirement::Requirement;
 use resolvo_report::{AnswerLine, Place};

@@ -20,7 +20,7 @@ use crate::forbidden_wishes::ForbiddenWishes;
 use crate::kept_reasons::gives_at;
 use crate::versions::Versions;
 use resolvo_catalogue_core::{Catalogue, Request, Rule, Spec, Version};
-use resolvo_checker::of_line::rule_asked;
+use resolvo_checker::line_rule::rule_asked;
 use resolvo_checker::steps::number_of;
 use resolvo_report::{AnswerLine, Place};
 use resolvo_text::matches;

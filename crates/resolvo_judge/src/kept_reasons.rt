@@ -16,7 +16,7 @@ ghost use Rattle.resolvo_judge.specs.Entries.{gives as gives_spec};
 
 use crate::chosen::Chosen;
 use resolvo_catalogue_core::{Catalogue, Version, is_in_span};
-use resolvo_checker::of_line::need_of;
+use resolvo_checker::line_rule::need_of;
 use resolvo_pool_core::id::VersionSetId;
 use resolvo_pool_core::requirement::{ConditionalRequirement, Requirement};
 use resolvo_terms::Terms;

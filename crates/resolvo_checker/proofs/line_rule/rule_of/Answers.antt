@@ -5,7 +5,7 @@ use Rattle.resolvo_catalogue_core.specs.Listed.{listed}
 use Rattle.resolvo_checker.specs.RuleLines.{rule_line, line_of_kept, IsValid}
 use Rattle.resolvo_checker.proofs.RuleLineLemmas.{none_encoded}
 use Rattle.resolvo_checker.proofs.KeptRules.{kept_encodes, valid}
-use Rattle.resolvo_checker.proofs.of_line.rule_of.Goals as goal
+use Rattle.resolvo_checker.proofs.line_rule.rule_of.Goals as goal
 
 pub returns-in-Some-clause-from_line : goal.returns-in-Some-clause-from_line
 returns-in-Some-clause-from_line c =

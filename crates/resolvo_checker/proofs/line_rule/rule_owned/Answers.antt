@@ -4,7 +4,7 @@ use Rattle.resolvo_catalogue_core.specs.Grammar.{line_at}
 use Rattle.resolvo_catalogue_core.specs.Questions.{is_rule}
 use Rattle.resolvo_catalogue_core.specs.declared.rule.Rule.{Rule}
 use Rattle.resolvo_checker.proofs.RuleLineLemmas.{none_owned_by}
-use Rattle.resolvo_checker.proofs.of_line.rule_owned.Goals as goal
+use Rattle.resolvo_checker.proofs.line_rule.rule_owned.Goals as goal
 
 pub returns-in-None-clause-from_line : goal.returns-in-None-clause-from_line
 returns-in-None-clause-from_line c = λ request. none_owned_by _ _

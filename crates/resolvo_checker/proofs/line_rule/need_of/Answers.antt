@@ -8,7 +8,7 @@ use Rattle.resolvo_report.specs.Value.{OfVersion}
 use Rattle.resolvo_checker.specs.StepClauses.{line_of}
 use Rattle.resolvo_checker.specs.RuleLines.{need_line, line_of_need, need_kept}
 use Rattle.resolvo_checker.proofs.KeptRules.{kept_need, no_kept_need}
-use Rattle.resolvo_checker.proofs.of_line.need_of.Goals as goal
+use Rattle.resolvo_checker.proofs.line_rule.need_of.Goals as goal
 
 pub returns-in-Some : goal.returns-in-Some
 returns-in-Some c = λ catalogue request lines same.

@@ -4,7 +4,7 @@ use Rattle.resolvo_catalogue_core.specs.Listed.{listed}
 use Rattle.resolvo_report.specs.View.{place_of}
 use Rattle.resolvo_checker.specs.StepClauses.{line_of}
 use Rattle.resolvo_checker.specs.RuleLines.{line_of_rule, owned_line}
-use Rattle.resolvo_checker.proofs.of_line.rule_at.Goals as goal
+use Rattle.resolvo_checker.proofs.line_rule.rule_at.Goals as goal
 
 pub returns-in-None-clause-from_line : goal.returns-in-None-clause-from_line
 returns-in-None-clause-from_line c = ap (λ p. owned_line (line_of c.args.catalogue.now c.args.request.now.lines (place_of p) c.args.line)) c.in-Request.is ∙ c.in-None.ensures.from_line (listed c.args.catalogue.now)

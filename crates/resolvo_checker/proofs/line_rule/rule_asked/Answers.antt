@@ -1,7 +1,7 @@
 use Rattle.std.proofs.Common.{ap, ◌∙◌}
 use Rattle.resolvo_checker.specs.RuleLines.{owned_line}
 use Rattle.resolvo_checker.proofs.RuleLineLemmas.{request_rule_encodes, request_rule_unowned, none_owned}
-use Rattle.resolvo_checker.proofs.of_line.rule_asked.Goals as goal
+use Rattle.resolvo_checker.proofs.line_rule.rule_asked.Goals as goal
 
 pub returns-in-Some-clause-from_line : goal.returns-in-Some-clause-from_line
 returns-in-Some-clause-from_line c = λ vs. let s = c.in-Some.ensures.of_line in ap owned_line s.1 ∙ request_rule_encodes vs c.in-Some.rule.now s.0 s.2
