@@ -9,10 +9,10 @@ use Rattle.resolvo_report.specs.Value.{Step}
 use Rattle.resolvo_report.specs.declared.step.Step.{Step as CodeStep}
 use Rattle.resolvo_report.specs.View.{step_of}
 use Rattle.resolvo_checker.specs.declared.literal.Literal.{Literal}
-use Rattle.resolvo_checker.specs.declared.kept.Kept.{Kept as CodeKept}
-use Rattle.resolvo_checker.specs.declared.kept.Kept.TheVariants as code
-use Rattle.resolvo_checker.specs.declared.kept.Long.{Long}
-use Rattle.resolvo_checker.specs.declared.kept.Long.TheVariants as long
+use Rattle.resolvo_checker.specs.declared.kept_clause.Kept.{Kept as CodeKept}
+use Rattle.resolvo_checker.specs.declared.kept_clause.Kept.TheVariants as code
+use Rattle.resolvo_checker.specs.declared.kept_clause.Long.{Long}
+use Rattle.resolvo_checker.specs.declared.kept_clause.Long.TheVariants as long
 use Rattle.resolvo_checker.specs.Kept.{Kept, Ready, Deferred, literals_at, literals_kept, step_kept, deferred_at, IsBuilt, AreBuilt}
 use Rattle.resolvo_checker.specs.Pieces.{long_piece, range_of, piece_or, piece, long_number, pieces, AreLongWithin, IsKeptWithin, AreKeptWithin, AreWithin, IsLongStep, IsLongReady}
 

@@ -27,7 +27,7 @@ use crate::clause_atoms::{
     number_all, push_any, push_bit, push_match, push_outside, push_shared, push_version,
 };
 use crate::clauses::Clauses;
-use crate::kept::long_step;
+use crate::kept_clause::long_step;
 use crate::literal::Literal;
 use crate::rule_steps::RuleSteps;
 use crate::rup::is_rup;

@@ -8,12 +8,12 @@ ghost use Rattle.std.specs.Option.{option_map, option_and_then, option_copied};
 ghost use Rattle.resolvo_report.specs.Value.{Step as StepValue};
 ghost use Rattle.resolvo_report.specs.View.{step_of};
 ghost use Rattle.resolvo_checker.specs.declared.literal.Literal.{Literal as KeptLiteral};
-ghost use Rattle.resolvo_checker.specs.declared.kept.Kept.{Kept as CodeKept};
-ghost use Rattle.resolvo_checker.specs.declared.kept.Long.{Long as CodeLong};
+ghost use Rattle.resolvo_checker.specs.declared.kept_clause.Kept.{Kept as CodeKept};
+ghost use Rattle.resolvo_checker.specs.declared.kept_clause.Long.{Long as CodeLong};
 ghost use Rattle.resolvo_checker.specs.Kept.{Ready, Deferred, literals_at, deferred_at, AreBuilt};
 ghost use Rattle.resolvo_checker.specs.Pieces.{range_of, long_number, pieces, AreWithin, IsLongStep, IsLongReady};
 
-use crate::kept::{Kept, Long};
+use crate::kept_clause::{Kept, Long};
 use crate::literal::Literal;
 use resolvo_report::Step;
 use std::alloc::{AllocError, Global};

@@ -8,7 +8,7 @@ pub mod check_step;
 mod clause_atoms;
 mod clause_parts;
 pub mod clauses;
-mod kept;
+mod kept_clause;
 pub mod line_rule;
 pub mod literal;
 pub mod proof;

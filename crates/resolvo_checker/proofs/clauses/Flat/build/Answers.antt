@@ -2,8 +2,8 @@ use Rattle.std.proofs.Common.{◌∙◌, ap, sym, subst, List}
 use Rattle.std.specs.Prelude.{slice_get}
 use Rattle.std.specs.Option.{option_and_then}
 use Rattle.std.proofs.lemmas.Option.{none-some}
-use Rattle.resolvo_checker.specs.declared.kept.Kept.{Kept as CodeKept}
-use Rattle.resolvo_checker.specs.declared.kept.Kept.TheVariants as code
+use Rattle.resolvo_checker.specs.declared.kept_clause.Kept.{Kept as CodeKept}
+use Rattle.resolvo_checker.specs.declared.kept_clause.Kept.TheVariants as code
 use Rattle.resolvo_checker.specs.Kept.{Kept, deferred_at, AreBuilt}
 use Rattle.resolvo_checker.specs.Pieces.{long_number, pieces}
 use Rattle.resolvo_checker.proofs.PieceLemmas.{on_ok_map, long_found, long_there, deferred-of, long-step, long-ready, no_long}

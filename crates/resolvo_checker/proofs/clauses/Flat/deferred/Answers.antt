@@ -1,6 +1,6 @@
 use Rattle.std.proofs.Common.{◌∙◌, ap, List}
-use Rattle.resolvo_checker.specs.declared.kept.Kept.{Kept as CodeKept}
-use Rattle.resolvo_checker.specs.declared.kept.Long.{Long}
+use Rattle.resolvo_checker.specs.declared.kept_clause.Kept.{Kept as CodeKept}
+use Rattle.resolvo_checker.specs.declared.kept_clause.Long.{Long}
 use Rattle.resolvo_checker.specs.Kept.{Kept, deferred_at}
 use Rattle.resolvo_checker.specs.Pieces.{pieces}
 use Rattle.resolvo_checker.proofs.clauses.Flat.deferred.Goals as goal
