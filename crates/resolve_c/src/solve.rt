@@ -7,7 +7,7 @@ ghost use Rattle.resolve_c.specs.CallResult.{Solves, SolvesWithin, StopsSolvingW
 use crate::call_result::{CallResult, write_text};
 use crate::call_status::{ending_of, growing_within, stop_ending_of};
 use crate::lent::Lent;
-use resolve_check::written::Written;
+use resolve_check::read_fault::Written;
 use resolve_run::{RunStop, run_within};
 use resolvo_text::GrowingSink;
 use std::alloc::Global;

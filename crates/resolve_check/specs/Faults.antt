@@ -7,7 +7,7 @@ use Rattle.resolvo_pool_core.specs.declared.want.Want.TheVariants as want
 use Rattle.resolve_check.specs.declared.outcome.Outcome.TheVariants as outcome
 use Rattle.resolve_check.specs.declared.outcome.RunFault.{RunFault}
 use Rattle.resolve_check.specs.declared.outcome.RunFault.TheVariants.{Reader, TooLong, Memory, Ids}
-use Rattle.resolve_check.specs.declared.written.Written.{Written}
+use Rattle.resolve_check.specs.declared.read_fault.Written.{Written}
 use Rattle.resolve_check.specs.Texts.{fault_text}
 
 -- the fault by the name of the lacking resource

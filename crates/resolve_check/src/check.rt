@@ -6,7 +6,7 @@ ghost use Rattle.resolve_check.specs.Devices.{IfCatalogueFaulty, IfRequestFaulty
 ghost use Rattle.resolve_check.specs.Check.{IsVerdictText, AnswersFault, ChecksTexts, StopsBeforeCheck, StopsCheck, WritesCheck};
 
 use crate::outcome::{Checked, RunFault};
-use crate::written::not_read;
+use crate::read_fault::not_read;
 use resolvo_catalogue_core::{Catalogue, ReadFault, Request, Sink, Source, write_all};
 use resolvo_judge::{JudgeFault, Verdict, judge};
 use std::alloc::Global;

@@ -6,4 +6,4 @@ pub mod check;
 pub mod exit_status;
 pub mod input;
 pub mod outcome;
-pub mod written;
+pub mod read_fault;

@@ -13,7 +13,7 @@ use Rattle.resolve_run.specs.Answer.{IsAnswerOfLines}
 use Rattle.resolvo_text.specs.Texts.{IsTextFault}
 use Rattle.resolvo_text.specs.declared.lines.ReadFault.{ReadFault}
 use Rattle.resolvo_text.specs.declared.lines.ReadFault.TheVariants as read
-use Rattle.resolve_check.specs.declared.written.Written.{Written}
+use Rattle.resolve_check.specs.declared.read_fault.Written.{Written}
 use Rattle.resolve_check.specs.declared.outcome.RunFault.{RunFault}
 use Rattle.resolve_check.specs.declared.outcome.RunFault.TheVariants.{Reader, TooLong, Memory, Ids, Writer}
 use Rattle.resolve_check.specs.Devices.{Device, StopsReading}

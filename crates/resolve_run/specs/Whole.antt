@@ -1,7 +1,7 @@
 -- The text of a run, of which a report's message is kept apart.
 use Rattle.std.specs.Prelude.{◌≡◌, ℕ, List, ◌++◌, Result, Ok, Err}
 use Rattle.resolve_check.specs.declared.outcome.RunFault.{RunFault}
-use Rattle.resolve_check.specs.declared.written.Written.{Written}
+use Rattle.resolve_check.specs.declared.read_fault.Written.{Written}
 use Rattle.resolve_run.specs.declared.stop.RunStop.{RunStop}
 use Rattle.resolve_run.specs.declared.stop.RunStop.TheVariants.{Fault}
 use Rattle.resolve_run.specs.declared.text.RunText.{RunText}

@@ -18,7 +18,7 @@ use crate::text::{RunText, write_both};
 use resolve_answer::Release;
 use resolve_answer::answer::{Answer, report_for};
 use resolve_check::outcome::{Outcome, RunFault};
-use resolve_check::written::not_read;
+use resolve_check::read_fault::not_read;
 use resolvo_catalogue_core::{Catalogue, Request, Sink, Source};
 use std::alloc::Global;
 

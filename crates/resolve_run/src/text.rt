@@ -11,7 +11,7 @@ ghost use Rattle.resolve_run.specs.Whole.{IsAlone};
 use crate::stop::RunStop;
 use resolve_answer::stop::MOST_BYTES;
 use resolve_check::outcome::{Outcome, RunFault};
-use resolve_check::written::Written;
+use resolve_check::read_fault::Written;
 use resolvo_catalogue_core::{Sink, WriteFault, write_all};
 use std::alloc::Global;
 
