@@ -5,7 +5,7 @@ ghost use Rattle.std.specs.Prelude.{◌≡◌, ◌+◌, ◌-◌};
 ghost use Rattle.resolvo_decide.specs.CandidateCounts.{changed, one_more};
 
 /// What an entry of the trail does to a candidate.
-#[derive(Clone, Copy, Debug)]
+#[derive(Clone, Copy)]
 pub enum CandidateChange {
     /// It makes the candidate true.
     MadeTrue,
@@ -18,7 +18,7 @@ pub enum CandidateChange {
 }
 
 /// The candidates of a clause under the trail.
-#[derive(Clone, Copy, Debug)]
+#[derive(Clone, Copy)]
 pub struct CandidateCount {
     /// How many candidates there are.
     pub total: usize,

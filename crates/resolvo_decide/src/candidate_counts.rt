@@ -27,7 +27,7 @@ use std::alloc::Global;
 const MANY: usize = 16;
 
 /// How the candidates of a clause are counted.
-#[derive(Clone, Copy, Debug)]
+#[derive(Clone, Copy)]
 pub enum CountState {
     /// They weren't counted yet.
     Never,
@@ -38,7 +38,7 @@ pub enum CountState {
 }
 
 /// A candidate of a clause with a count: the number of the count, and the place of the candidate.
-#[derive(Clone, Copy, Debug)]
+#[derive(Clone, Copy)]
 pub struct Occurrence {
     pub count: usize,
     pub place: usize,

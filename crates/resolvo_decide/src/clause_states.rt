@@ -19,7 +19,7 @@ const BLOCK: usize = 64;
 const GROUP: usize = 4096;
 
 /// The state of a need clause under the trail.
-#[derive(Clone, Copy, Debug)]
+#[derive(Clone, Copy)]
 pub enum ClauseState {
     /// It may have something to decide.
     Open,

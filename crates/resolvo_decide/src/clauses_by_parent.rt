@@ -10,7 +10,7 @@ use resolvo_pool_core::want::{R, Want};
 use std::alloc::Global;
 
 /// A clause, with the link to its parent's clause before it.
-#[derive(Clone, Copy, Debug)]
+#[derive(Clone, Copy)]
 pub struct Link {
     /// The position of the clause in the queue.
     pub position: u32,

@@ -26,7 +26,7 @@ use std::hash::Hash;
 const FEWEST: usize = 2;
 
 /// The result of one step.
-#[derive(Debug, Drop)]
+#[derive(Drop)]
 pub enum Step {
     /// Nothing is left to propagate or decide.
     Done,

@@ -8,10 +8,9 @@ ghost use Rattle.resolvo_state.specs.declared.atom.ProofAtom.TheVariants.{Gate};
 use resolvo_pool_core::id::{Exact, VersionSetId};
 use resolvo_pool_core::requirement::Requirement;
 use resolvo_sat::state::VariableKind;
-use std::alloc::AllocError;
 
 /// What a variable other than the root's represents.
-#[derive(PartialEq, Eq, Hash, Debug)]
+#[derive(Clone, Copy, PartialEq, Eq, Hash, Debug)]
 pub enum ProofAtom<N, S> {
     /// The solvable is chosen.
     Solvable(S),
@@ -26,18 +25,6 @@ pub enum ProofAtom<N, S> {
     /// A binary digit of the place of the package's chosen solvable, counted from the lowest.
     Bit(N, u32),
 }
-
-impl<N: Copy, S: Copy> Clone for ProofAtom<N, S> {
-    ghost is_clone = { λ x y. y ≡ x };
-
-    ghost is_infallible = { λ _. Unit {0} };
-
-    fn clone(&self) -> Result<ProofAtom<N, S>, AllocError> {
-        Ok(*self)
-    }
-}
-
-impl<N: Copy, S: Copy> Copy for ProofAtom<N, S> {}
 
 impl<N: Copy, S: Copy> ProofAtom<N, S> {
     /// The kind of its variable in the search.

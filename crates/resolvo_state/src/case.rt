@@ -6,7 +6,7 @@ use std::alloc::AllocError;
 use std::marker::Model;
 
 /// The version sets of a case, of which each has a chosen match where it holds.
-#[derive(Debug, Drop)]
+#[derive(Drop)]
 pub struct Case {
     version_sets: Vec<VersionSetId>,
 }

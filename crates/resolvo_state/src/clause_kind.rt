@@ -7,7 +7,7 @@ use resolvo_pool_core::requirement::{ConditionalRequirement, Requirement};
 use std::alloc::AllocError;
 
 /// A requirement of a parent, for a case of its condition.
-#[derive(Debug, Drop)]
+#[derive(Drop)]
 pub struct Need<S> {
     pub parent: Option<S>,
     pub need: ConditionalRequirement,

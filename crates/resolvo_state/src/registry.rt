@@ -34,7 +34,7 @@ use std::fmt::Debug;
 use std::hash::Hash;
 
 /// A registered variable, with its package.
-#[derive(Clone, Copy, PartialEq, Eq, Hash, Debug)]
+#[derive(Clone, Copy, PartialEq, Eq, Hash)]
 pub struct Member<N> {
     pub name: N,
     pub variable: VariableId,

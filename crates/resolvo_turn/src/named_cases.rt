@@ -11,7 +11,7 @@ use std::fmt::Debug;
 use std::hash::Hash;
 
 /// A listed case, with the link to the case before it that names its package.
-#[derive(Clone, Copy, Debug)]
+#[derive(Clone, Copy)]
 struct NamedCase {
     place: usize,
     /// One more than the index of the link before this one, or 0.

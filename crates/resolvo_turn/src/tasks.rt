@@ -16,7 +16,7 @@ use std::fmt::Debug;
 use std::hash::Hash;
 
 /// A task of an encoding.
-#[derive(Clone, Copy, Debug)]
+#[derive(Clone, Copy)]
 pub enum Task<S> {
     /// The dependencies of this parent are asked for.
     Dependencies(SolvableIdOrRoot<S>),

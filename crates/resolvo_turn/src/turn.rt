@@ -416,7 +416,7 @@ fn scan_all<A: PackageSource>(
 }
 
 /// The result of a round.
-#[derive(Debug, Drop)]
+#[derive(Drop)]
 enum Round {
     /// There is a parent to encode, or a case became a clause.
     Continues,

@@ -9,7 +9,7 @@ use resolvo_pool_core::want::R;
 use std::alloc::Global;
 
 /// How many cases of a condition wait. The place of the condition, if some do.
-#[derive(Clone, Copy, Debug)]
+#[derive(Clone, Copy)]
 struct WaitingCases {
     count: usize,
     place: usize,
