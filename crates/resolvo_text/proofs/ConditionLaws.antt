@@ -10,7 +10,7 @@ use Rattle.resolvo_text.specs.Line.{Spec, Cond, Is}
 use Rattle.resolvo_text.specs.Spelling.{Words, is_name, IsSpec, spec_words, Written, Lone, Group, Both, Either, meant, written_words, looseness, IsWritten, depth_of, spec_count, AreWordsOfCondition}
 use Rattle.resolvo_text.specs.declared.condition.Joint.{Joint}
 use Rattle.resolvo_text.specs.declared.condition.Joint.TheVariants.{And, Or}
-use Rattle.resolvo_text.specs.Parse.{◌>>=◌, PartReader, Part, skip, span_in, spec_at, word_of, joined, closed, lone_at, atom_with, parts_at, parts_with, group_at, joined_at, end_at, behind_if}
+use Rattle.resolvo_text.specs.Parse.{◌>>=◌, PartReader, Part, skip, span_in, spec_at, word_of, join, joined, closed, lone_at, atom_with, parts_at, parts_with, group_at, joined_at, end_at, behind_if}
 use Rattle.resolvo_text.proofs.AlternativeLemmas.{bind_some}
 use Rattle.resolvo_text.proofs.SpanLaws.{not_a_span}
 use Rattle.resolvo_text.proofs.ConditionLemmas.{group_is, joined_is}
@@ -230,6 +230,20 @@ one_part : (j : Joint) (deep : ℕ) (part : PartReader) → Again (tightness j) 
 unfolding parts_at
 one_part j deep part again w f zero room left rest le count ends = absurd (omega (arith, some_specs w))
 one_part j deep part again w f (suc n) room left rest le count ends = (n, omega (arith, some_specs w), rw (again w f room left rest count ends) refl)
+
+more_parts : (j : Joint) (deep : ℕ) (part : PartReader) → Again (tightness j) deep part (EndsPart j) → (c : Cond) (x : Written) → Fits (tightness j) deep x → (n room left : ℕ) (rest : Words) → room ≤ n → spec_count x + left ≡ room → EndsPart j rest
+    → (m : ℕ) × (left ≤ m) × (follows_part j part n c room (word_of j ∷ (written_words x ++ rest)) ≡ follows_part j part m (join j c (meant x)) left rest)
+unfolding parts_at
+more_parts j deep part again c x f zero room left rest le count ends = absurd (omega (arith, some_specs x))
+more_parts j deep part again c x f (suc n) room left rest le count ends = (n, omega (arith, some_specs x), rw (skip_is (word_of j) (written_words x ++ rest), again x f room left rest count ends) refl)
+
+joined_parts : (j : Joint) (deep : ℕ) (part : PartReader) → Again (tightness j) deep part (EndsPart j) → (v x : Written) → Fits (tightness j) deep x → (n room left mid : ℕ) (rest : Words) → spec_count x + left ≡ mid → EndsPart j rest
+    → IsFollowed j part n room (written_words v ++ word_of j ∷ (written_words x ++ rest)) v mid (word_of j ∷ (written_words x ++ rest))
+    → meant (written_join j v x) ≡ join j (meant v) (meant x) → (written_words (written_join j v x) ++ rest) ≡ written_words v ++ word_of j ∷ (written_words x ++ rest)
+    → IsFollowed j part n room (written_words (written_join j v x) ++ rest) (written_join j v x) left rest
+joined_parts j deep part again v x f n room left mid rest count ends first means words =
+    let on = more_parts j deep part again (meant v) x f first.0 mid left rest first.1 count ends in
+    (on.0, on.1, ap (λ (ws : Words). parts_at j part n None room ws) words ∙ first.2 ∙ on.2 ∙ ap (λ (c : Cond). follows_part j part on.0 c left rest) (sym means))
 
 -- From the left, part after part: `and` joins atoms, `or` joins conjunctions.
 parts_follow : (j : Joint) (deep : ℕ) (part : PartReader) → Again (tightness j) deep part (EndsPart j) → (w : Written) → Fits (suc (tightness j)) deep w → (n room left : ℕ) (rest : Words) → room ≤ n → spec_count w + left ≡ room → EndsPart j rest
