@@ -38,3 +38,4 @@ pub mod FirstLemmas
 pub mod Places
 pub mod GrowLemmas
 pub mod PairLemmas
+pub mod TieLemmas

@@ -100,6 +100,17 @@ tie_clause t = sat_clause (no t.0 ∷ (let l : Signed = record { variable = t.1;
 abbrev pub tie_clauses : ℕ → VariableId → List VariableId → List SatClause
 tie_clauses place x digits = map tie_clause (ties place x digits)
 
+-- The digit's variable has no value among these literals, and it is another one. So whatever value the tie gives it, its
+-- literals differ, and the digit's isn't false.
+pub record IsPlainDigit (known : List Signed) (x d : VariableId) : Type 0 where
+  pub differ : (b : Bool) → same_literal (no x) (record { variable = d; positive = b }) ≡ false
+  pub free : (b : Bool) → has known (negation (record { variable = d; positive = b })) ≡ false
+
+-- no literal of the variable's ties is false, and those of each differ
+pub record ArePlainTies (known : List Signed) (x : VariableId) (digits : List VariableId) : Type 0 where
+  pub first : has known (negation (no x)) ≡ false
+  pub each : (i : ℕ) → i < length digits → IsPlainDigit known x (slice_index_or digits i (record { 0 = 0 }))
+
 -- these are among so many variables
 abbrev pub AreVariables : ℕ → List VariableId → Type 0
 AreVariables count vs = (i : ℕ) → i < length vs → (slice_index_or vs i (record { 0 = 0 })).0 < count

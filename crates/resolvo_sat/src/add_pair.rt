@@ -10,11 +10,11 @@ ghost use Rattle.resolvo_sat.specs.State.{IsState, history, count_of};
 ghost use Rattle.resolvo_sat.specs.Steps.{AreInRange};
 ghost use Rattle.resolvo_sat.specs.Propagation.{IsReady, AreCovered};
 ghost use Rattle.resolvo_sat.specs.Pending.{AreOpen};
-ghost use Rattle.resolvo_sat.specs.AddClause.{AddsClause, IsPairOf, IsFreeIf, BeginsPair, tie_clauses, AreVariables, AddsClauses};
+ghost use Rattle.resolvo_sat.specs.AddClause.{AddsClause, IsPairOf, IsFreeIf, BeginsPair};
 
 use crate::state::SatState;
 use crate::watch_lists::{UnitClause, WatchLists};
-use resolvo_pool_core::id::{ClauseId, VariableId};
+use resolvo_pool_core::id::ClauseId;
 use resolvo_pool_core::want::R;
 use resolvo_store_core::literal::Literal;
 use resolvo_store_core::watched_literals::WatchedLiterals;
@@ -47,7 +47,7 @@ impl SatState {
 
     /// Adds a rule that doesn't have just two literals, which differ.
     #[inline(never)]
-    fn add_other(
+    pub(crate) fn add_other(
         &mut self,
         watching: &mut WatchLists,
         literals: &[Literal],
@@ -95,7 +95,7 @@ impl SatState {
 
     /// The same where it is known whether the first literal is false.
     #[inline(always)]
-    fn add_beside(
+    pub(crate) fn add_beside(
         &mut self,
         watching: &mut WatchLists,
         pair: WatchedLiterals,
@@ -210,7 +210,7 @@ impl SatState {
 
     /// Whether a literal isn't false.
     #[inline(always)]
-    fn is_free(&self, literal: Literal) -> bool
+    pub(crate) fn is_free(&self, literal: Literal) -> bool
         requires { IsState self.now }
         ensures { IsFreeIf result self.now literal }
     {
@@ -218,63 +218,6 @@ impl SatState {
             return false;
         }
         true
-    }
-}
-
-impl SatState {
-    /// Adds the rules that tie a variable to the binary digits of a place, from the lowest on. Where
-    /// the variable is true, each digit's variable has the value of the digit.
-    pub fn add_ties(
-        &mut self,
-        watching: &mut WatchLists,
-        variable: VariableId,
-        place: u32,
-        digits: &[VariableId],
-    ) -> R<()>
-        requires ready { IsReady self.old watching.old }
-        requires covered { AreCovered self.old watching.old }
-        requires variable { variable.0 < count_of self.old }
-        requires digits { AreVariables (count_of self.old) digits.now }
-        // After an answer.
-        ensures added { IfOk result (λ _. AddsClauses (tie_clauses place variable digits.now)
-            self.old self.new watching.new) }
-        // After a refusal.
-        ensures full { IsErrOf result Ids → length self.new.clauses ≡ 4294967295 }
-    {
-        let first = Literal::new(variable, true);
-        let is_free = self.is_free(first);
-        let mut rest = place;
-        for digit in digits {
-            let value = rest % 2 == 1;
-            let second = Literal::new(*digit, !value);
-            self.add_tie(watching, WatchedLiterals { first, second }, is_free)?;
-            rest /= 2;
-        }
-        Ok(())
-    }
-
-    /// Adds a rule of two literals, where it is known whether the first one is false.
-    #[inline(always)]
-    fn add_tie(
-        &mut self,
-        watching: &mut WatchLists,
-        pair: WatchedLiterals,
-        is_free: bool,
-    ) -> R<ClauseId>
-        requires ready { IsReady self.old watching.old }
-        requires covered { AreCovered self.old watching.old }
-        requires in_range { AreInRange (count_of self.old) (pair.first ∷ pair.second ∷ []) }
-        requires free { IsFreeIf is_free self.old pair.first }
-        // After an answer.
-        ensures added { IfOk result
-            (λ id. AddsClause (pair_clause pair) id self.old watching.old self.new watching.new) }
-        // After a refusal.
-        ensures full { IsErrOf result Ids → length self.new.clauses ≡ 4294967295 }
-    {
-        if pair.first == pair.second {
-            return self.add_other(watching, &[pair.first, pair.second], true);
-        }
-        self.add_beside(watching, pair, is_free, true)
     }
 }
 

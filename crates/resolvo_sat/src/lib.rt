@@ -5,6 +5,7 @@
 
 pub mod add_clause;
 pub mod add_pair;
+pub mod add_ties;
 pub mod analyze;
 pub mod analyze_final;
 pub mod assign;

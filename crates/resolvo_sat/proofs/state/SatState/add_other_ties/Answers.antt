@@ -1,7 +1,7 @@
 use Rattle.std.proofs.Common.{◌<◌, ◌^◌, get_or, arith}
 use Rattle.resolvo_sat.specs.State.{count_of}
 use Rattle.resolvo_sat.proofs.PairLemmas.{free_after, tie_within, ties_begun, ties_more, ties_added}
-use Rattle.resolvo_sat.proofs.state.SatState.add_ties.Goals as goal
+use Rattle.resolvo_sat.proofs.state.SatState.add_other_ties.Goals as goal
 
 pub new-first-requires : goal.new-first-requires
 new-first-requires c =
