@@ -1,49 +1,26 @@
 -- More rules, clauses and variables keep the invariant.
-use Rattle.std.proofs.Common.{◌≡◌, ℕ, zero, suc, ◌+◌, ◌<◌, ◌⊎◌, inl, inr, Bool, true, false, ◌==◌, List, [], ◌∷◌, ◌++◌, length, reverse, cond, refl, sym, ◌∙◌, ap, subst, arith}
+use Rattle.std.proofs.Common.{◌≡◌, ℕ, zero, suc, ◌+◌, ◌<◌, inl, inr, Bool, true, ◌==◌, List, [], ◌∷◌, ◌++◌, length, cond, refl, sym, ◌∙◌, ap, subst, arith}
 use Rattle.std.specs.Prelude.{Contains}
-use Rattle.std.proofs.lemmas.Bool.{both_ways}
-use Rattle.std.proofs.lemmas.List.{length-append}
 use Rattle.resolvo_pool_core.specs.declared.requirement.Requirement.{Requirement}
 use Rattle.resolvo_pool_core.specs.OnePass.{Literal}
 use Rattle.resolvo_pool_core.specs.RuleKeeping.{Packages}
 use Rattle.resolvo_store_core.specs.Signed.{Signed, has}
-use Rattle.resolvo_store_core.specs.Clauses.{yes, root as root_variable}
 use Rattle.resolvo_store_core.specs.declared.decision.Entry.{Entry}
-use Rattle.resolvo_sat.specs.Clauses.{SatClause}
 use Rattle.resolvo_sat.specs.Known.{clause_at}
 use Rattle.resolvo_sat.specs.Entries.{literal_of, made_true, IsOnTrail, IsTrail}
-use Rattle.resolvo_sat.specs.State.{lists, AreDerived}
 use Rattle.resolvo_sat.specs.Steps.{KeepsChoices}
-use Rattle.resolvo_sat.specs.Begin.{IsRootClause}
-use Rattle.resolvo_sat.proofs.Literals.{has-cons, has_here, has_later}
+use Rattle.resolvo_sat.proofs.Literals.{has_here, has_later}
 use Rattle.resolvo_sat.proofs.Trails.{known_in_range}
-use Rattle.resolvo_sat.proofs.Clauses.{length-lists}
-use Rattle.resolvo_sat.proofs.StepLemmas.{lists-append}
-use Rattle.resolvo_sat.specs.RuleClauses.{Atom, Rule, plus, literals_of}
+use Rattle.resolvo_sat.specs.RuleClauses.{Atom, Rule}
 use Rattle.resolvo_sat.specs.SearchEnd.{IsAsked}
 use Rattle.resolvo_sat.specs.First.{IsFirstPick}
-use Rattle.resolvo_sat.specs.Numbered.{meaning, Means, meanings, known_of, IsOnce, Spells, AreCalledFor, IsAccounted, AreCoded}
-use Rattle.resolvo_sat.proofs.Lists.{contains_none, contains_cases, contains_one, contains_parts}
+use Rattle.resolvo_sat.specs.Numbered.{meaning, meanings, known_of, Spells, AreCalledFor}
 
 -- an entry of a trail, with those before it, is a trail
 trail_under : (count : ℕ) (cs : List (List Signed)) (h : List Entry) (e : Entry) (older : List Entry) → IsTrail count cs h → IsOnTrail h e older → IsTrail count cs (e ∷ older)
 trail_under count cs [] e older t s = absurd s
 trail_under count cs (d ∷ rest) e older t (inl (same, before)) = subst (λ (xs : List Entry). IsTrail count cs (e ∷ xs)) before (subst (λ (x : Entry). IsTrail count cs (x ∷ rest)) same t)
 trail_under count cs (d ∷ rest) e older t (inr s) = trail_under count cs rest e older t.1 s
-
--- a clause that is held is at some place
-pub place_of_held : (cs : List SatClause) (c : SatClause) → Contains cs c → (n : ℕ) × (n < length cs) × (clause_at (lists cs) n ≡ c.literals)
-place_of_held [] c h = absurd (contains_none c h)
-place_of_held (d ∷ cs) c h = elim (contains_cases c d cs h) [
-  | inl e ↦ (0, omega arith, ap (λ (x : SatClause). x.literals) (sym e))
-  | inr a ↦ let (n, below, e) = place_of_held cs c a in (suc n, omega arith, e)
-]
-
--- a literal of a clause is in one of the old clauses, or in a new one
-has_in_more : (xs ys : List (List Signed)) (n : ℕ) (l : Signed) → has (clause_at (xs ++ ys) n) l ≡ true → (has (clause_at xs n) l ≡ true) ⊎ ((k : ℕ) × (has (clause_at ys k) l ≡ true))
-has_in_more [] ys n l h = inr (n, h)
-has_in_more (x ∷ xs) ys zero l h = inl h
-has_in_more (x ∷ xs) ys (suc n) l h = has_in_more xs ys n l h
 
 -- the old clauses are at their places
 pub clause_stays : (xs ys : List (List Signed)) (n : ℕ) → n < length xs → clause_at (xs ++ ys) n ≡ clause_at xs n

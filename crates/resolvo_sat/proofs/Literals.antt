@@ -1,6 +1,6 @@
 -- Lemmas on literals and lists of them.
 use Rattle.std.proofs.lemmas.List.{take_more}
-use Rattle.std.proofs.Common.{◌≡◌, ℕ, ◌+◌, ◌<◌, length, take, get_or, Bool, true, false, not, ◌⊎◌, inl, inr, List, [], ◌∷◌, ◌++◌, map, refl, sym, ◌∙◌, ap, subst}
+use Rattle.std.proofs.Common.{◌≡◌, ℕ, ◌+◌, ◌<◌, length, take, get_or, Bool, true, false, not, ◌⊎◌, inl, inr, List, [], ◌∷◌, ◌++◌, refl, sym, ap, subst}
 use Rattle.std.proofs.lemmas.Bool.{or_cases, or_left, or_right, both_ways}
 use Rattle.resolvo_store_core.specs.Signed.{Signed, negation, same_literal, has}
 use Rattle.resolvo_store_core.specs.SignLaws.{same_literal_true, same_literal-self}
@@ -36,23 +36,6 @@ has_left (x ∷ xs) ys l h = elim (has-cons x xs l h) [ inl e ↦ has_here x (xs
 pub has_right : (xs ys : List Signed) (l : Signed) → has ys l ≡ true → has (xs ++ ys) l ≡ true
 has_right [] ys l h = h
 has_right (x ∷ xs) ys l h = has_later x (xs ++ ys) l (has_right xs ys l h)
-
--- the negations of a clause make it false
-pub has-map_negation : (c : List Signed) (l : Signed) → has c l ≡ true → has (map negation c) (negation l) ≡ true
-has-map_negation [] l h = absurd (both_ways false refl h)
-has-map_negation (x ∷ xs) l h =
-    elim (has-cons x xs l h) [
-      | inl e ↦ has_here (negation x) (map negation xs) (negation l) (ap negation e)
-      | inr e ↦ has_later (negation x) (map negation xs) (negation l) (has-map_negation xs l e)
-    ]
-
-pub has_map_negation : (c : List Signed) (l : Signed) → has (map negation c) l ≡ true → has c (negation l) ≡ true
-has_map_negation [] l h = absurd (both_ways false refl h)
-has_map_negation (x ∷ xs) l h =
-    elim (has-cons (negation x) (map negation xs) l h) [
-      | inl e ↦ has_here x xs (negation l) (sym (negation-negation x) ∙ ap negation e)
-      | inr e ↦ has_later x xs (negation l) (has_map_negation xs l e)
-    ]
 
 -- one literal more of a list that is read from its first on
 pub has_more : (xs : List Signed) (i : ℕ) (d m : Signed) → i < length xs → has (take (i + 1) xs) m ≡ true → (has (take i xs) m ≡ true) ⊎ (get_or xs i d ≡ m)

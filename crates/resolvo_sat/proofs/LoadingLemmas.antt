@@ -1,12 +1,11 @@
 -- From single parents to all that is encoded.
-use Rattle.std.proofs.Common.{◌≡◌, ◌⊎◌, inl, inr, Bool, true, List, Option, Some, refl}
-use Rattle.std.proofs.lemmas.Bool.{both_ways}
+use Rattle.std.proofs.Common.{◌⊎◌, inl, inr, Bool, List, Option}
 use Rattle.resolvo_pool_core.specs.declared.id.VersionSetId.{VersionSetId}
 use Rattle.resolvo_pool_core.specs.declared.requirement.ConditionalRequirement.{ConditionalRequirement}
-use Rattle.resolvo_pool_core.specs.RuleKeeping.{Packages, Rules, is_member}
+use Rattle.resolvo_pool_core.specs.RuleKeeping.{Packages, Rules}
 use Rattle.resolvo_sat.specs.RuleClauses.{Rule}
-use Rattle.resolvo_sat.specs.SearchEnd.{IsNeedEncoded, AreEncoded}
-use Rattle.resolvo_sat.specs.Loads.{Deferred, IsParentEncoded, NoneFires}
+use Rattle.resolvo_sat.specs.SearchEnd.{IsNeedEncoded}
+use Rattle.resolvo_sat.specs.Loads.{Deferred, IsParentEncoded}
 
 module _ {N S : Type 0} (same : S → S → Bool) (p : Packages N S) (root : Rules) where
   need_grows : (rules more : Rule N S → Type 0) (parent : Option S) (need : ConditionalRequirement) (case : List VersionSetId) → ((r : Rule N S) → rules r → more r) → IsNeedEncoded same p rules parent need case → IsNeedEncoded same p more parent need case

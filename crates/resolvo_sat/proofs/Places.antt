@@ -1,10 +1,7 @@
 -- Different places below a power of two differ in a digit.
-use Rattle.std.proofs.Common.{◌≡◌, ℕ, zero, suc, ◌/◌, ◌^◌, ◌<◌, ◌⊎◌, inl, inr, Bool, true, false, not, refl, sym, ◌∙◌, ap, subst, arith}
+use Rattle.std.proofs.Common.{◌≡◌, ℕ, zero, suc, ◌/◌, ◌^◌, ◌<◌, ◌⊎◌, inl, inr, Bool, true, false, not, refl, arith}
 use Rattle.resolvo_store_core.specs.AtMostOne.{digit}
 use Rattle.resolvo_store_core.proofs.Digits.{same_digits}
-use Rattle.resolvo_sat.specs.RuleClauses.{Rule}
-use Rattle.resolvo_sat.specs.SearchEnd.{DifferInDigit}
-use Rattle.resolvo_sat.proofs.Members.{twice}
 
 same_or_not : (a b : Bool) → (a ≡ b) ⊎ (a ≡ not b)
 same_or_not true true = inl refl

@@ -1,5 +1,5 @@
 -- What a trail makes true is reached.
-use Rattle.std.proofs.Common.{◌≡◌, ℕ, ◌⊎◌, inl, inr, Bool, true, false, not, List, [], ◌∷◌, ◌++◌, Option, Some, None, refl, sym, ◌∙◌, ap, subst}
+use Rattle.std.proofs.Common.{◌≡◌, ℕ, ◌⊎◌, inl, inr, Bool, true, false, not, List, [], ◌∷◌, Option, Some, None, refl, sym, ◌∙◌, ap, subst}
 use Rattle.std.specs.Prelude.{Contains}
 use Rattle.std.proofs.lemmas.Bool.{and_from, both_ways, cases_Bool, not_from_false}
 use Rattle.resolvo_pool_core.specs.declared.id.VersionSetId.{VersionSetId}
@@ -7,12 +7,11 @@ use Rattle.resolvo_pool_core.specs.declared.requirement.ConditionalRequirement.{
 use Rattle.resolvo_pool_core.specs.declared.requirement.Requirement.{Requirement}
 use Rattle.resolvo_pool_core.specs.OnePass.{Literal, negate, is_true_at, clause_true}
 use Rattle.resolvo_pool_core.specs.Provider.{listed}
-use Rattle.resolvo_pool_core.specs.Text.{alternatives_of}
 use Rattle.resolvo_pool_core.specs.RuleKeeping.{Packages, Rules, is_many, rules_of, is_in, is_match, is_met, meets, binds, rules_for, is_member, Obeys, IsClosed}
-use Rattle.resolvo_sat.specs.RuleClauses.{IsExact, Atom, Rule, plus, minus, case_holds, case_literals, candidate_literals, parent_literals, literals_of, has_plain_need, IsRule, value}
-use Rattle.resolvo_sat.specs.SearchEnd.{IsTrueParent, HasClause, IsAsked, asking, IsCalledFor, IsForced, IsTrail, AreRegistered}
-use Rattle.resolvo_sat.proofs.Lists.{contains_none, contains_cases, contains_one, contains_parts, contains_first, contains_later, all_contained, contained_all}
-use Rattle.resolvo_sat.proofs.Members.{plus_true, true_plus, true_minus, made_by, not_both, negate-negate, any_in, in_any, any_in_case, outside_in_case, matches_in_case, candidate_from, binds_case, case_binds, asked}
+use Rattle.resolvo_sat.specs.RuleClauses.{IsExact, Atom, Rule, plus, minus, case_holds, case_literals, literals_of, has_plain_need, IsRule, value}
+use Rattle.resolvo_sat.specs.SearchEnd.{IsTrueParent, HasClause, IsAsked, IsCalledFor, IsForced, IsTrail, AreRegistered}
+use Rattle.resolvo_sat.proofs.Lists.{contains_none, contains_cases, contains_first, contains_later, all_contained, contained_all}
+use Rattle.resolvo_sat.proofs.Members.{plus_true, true_plus, true_minus, made_by, not_both, negate-negate, any_in, in_any, any_in_case, outside_in_case, matches_in_case, binds_case, case_binds, asked}
 
 module _ {N S : Type 0} (same : S → S → Bool) (exact : IsExact same) (p : Packages N S) (root : Rules) where
   -- a member of the part is a member
@@ -164,33 +163,3 @@ module _ {N S : Type 0} (same : S → S → Bool) (exact : IsExact same) (p : Pa
           go (inl is) (inl (inl w)) ih = subst registered (one_solvable e s w.solvable is w.is) (g.soft w.solvable w.wished)
           go (inl is) (inl (inr k)) ih = subst registered (one_solvable e s k.solvable is k.is) (g.candidate k.requirement k.solvable (has_clause older k.requirement k.asked) k.offered)
           go (inl is) (inr f) ih = f.positive s (subst (λ m. Contains f.clause m) (sym is) f.present)
-
-      denied_parent : (known : List (Literal (Atom N S))) (parent : Option S) → IsTrueParent known parent → (m : Literal (Atom N S)) → Contains (parent_literals parent) m → Contains known (negate m)
-      denied_parent known None t m a = absurd (contains_none m a)
-      denied_parent known (Some s) t m a = subst (λ x. Contains known (negate x)) (sym (contains_one m (minus (Atom.solvable s)) a)) t
-
-      -- what a clause asks for is met where one of its literals is true
-      pub met_by_literal : (choice : List (Literal (Atom N S)) → Literal (Atom N S) → Type 0) (known : List (Literal (Atom N S))) (r : Requirement) (k : IsAsked same p rules known r) (m : Literal (Atom N S)) → IsTrail same p rules registered choice known
-          → Contains (literals_of same p (asking same p rules known r k)) m → Contains known m → (s : S) × (meets same p r s ≡ true) × Contains known (plus (Atom.solvable s))
-      met_by_literal choice known r k m t present a = go k present
-        where
-          candidate : (q : Requirement) → r ≡ q → Contains (candidate_literals same p (alternatives_of p.members_of q)) m → (s : S) × (meets same p r s ≡ true) × Contains known (plus (Atom.solvable s))
-          candidate q e b =
-              let (s, i, h) = candidate_from same exact p (alternatives_of p.members_of q) m b in
-              (s, subst (λ x. meets same p x s ≡ true) (sym e) h, subst (Contains known) i a)
-
-          not_denied : Contains known (negate m) → ⊥
-          not_denied f = consistent choice known m t a f
-
-          go : (k : IsAsked same p rules known r) → Contains (literals_of same p (asking same p rules known r k)) m → (s : S) × (meets same p r s ≡ true) × Contains known (plus (Atom.solvable s))
-          go (inl k) b = elim (contains_parts m (parent_literals k.parent) (case_literals same p k.case ++ candidate_literals same p (alternatives_of p.members_of k.need.requirement)) b) [
-            | inl c ↦ absurd (not_denied (denied_parent known k.parent k.chosen m c))
-            | inr c ↦ elim (contains_parts m (case_literals same p k.case) (candidate_literals same p (alternatives_of p.members_of k.need.requirement)) c) [
-              | inl d ↦ absurd (not_denied (k.holds m d))
-              | inr d ↦ candidate k.need.requirement k.asks d
-            ]
-          ]
-          go (inr k) b = elim (contains_cases m (minus (Atom.gate r)) (candidate_literals same p (alternatives_of p.members_of r)) b) [
-            | inl e ↦ absurd (not_denied (subst (λ x. Contains known (negate x)) (sym e) k.opened))
-            | inr c ↦ candidate r refl c
-          ]

@@ -93,14 +93,6 @@ pub undone_all : (j : ℕ) (h : List Entry) → IsUndone j h h
 undone_all j [] = refl
 undone_all j (d ∷ older) = inl refl
 
-pub undone_more : (j : ℕ) (old : List Entry) (d : Entry) (new : List Entry) → IsUndone j old (d ∷ new) → j < d.level → IsUndone j old new
-undone_more j [] d new u h = cc
-undone_more j (e ∷ older) d new (inl u) h =
-    let same : d ≡ e = cc in
-    let rest : new ≡ older = cc in
-    inr (subst (λ (x : Entry). j < x.level) same h, subst (λ (x : List Entry). IsUndone j older x) (sym rest) (undone_all j older))
-undone_more j (e ∷ older) d new (inr u) h = inr (u.0, undone_more j older d new u.1 h)
-
 -- the remaining entries are the older part
 pub undone_older : (j : ℕ) (old new : List Entry) → IsUndone j old new → EndsWith new old
 undone_older j [] new u = ([], sym u)

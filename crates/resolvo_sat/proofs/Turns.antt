@@ -4,23 +4,20 @@ use Rattle.std.proofs.lemmas.Bool.{both_ways}
 use Rattle.std.specs.Prelude.{Contains}
 use Rattle.resolvo_pool_core.specs.declared.id.ClauseId.{ClauseId}
 use Rattle.resolvo_pool_core.specs.declared.requirement.Requirement.{Requirement}
-use Rattle.resolvo_pool_core.specs.OnePass.{Literal}
-use Rattle.resolvo_pool_core.specs.RuleKeeping.{Packages, Rules, is_in, meets, IsRuleKeeping}
+use Rattle.resolvo_pool_core.specs.RuleKeeping.{Packages, Rules, is_in, IsRuleKeeping}
 use Rattle.resolvo_store_core.specs.Signed.{Signed, has}
 use Rattle.resolvo_store_core.specs.Clauses.{yes, root as root_variable}
 use Rattle.resolvo_store_core.specs.declared.decision.Entry.{Entry}
 use Rattle.resolvo_sat.specs.Clauses.{SatClause}
 use Rattle.resolvo_sat.specs.Known.{clause_at}
-use Rattle.resolvo_sat.specs.Entries.{made_true, IsTrail, IsRooted}
+use Rattle.resolvo_sat.specs.Entries.{made_true}
 use Rattle.resolvo_sat.specs.State.{lists, IsDerived}
-use Rattle.resolvo_sat.proofs.Trails.{consistent, root_known}
 use Rattle.resolvo_sat.specs.RuleClauses.{IsExact, Atom, Rule, plus, literals_of, IsRule, AgreeWith}
 use Rattle.resolvo_sat.specs.SearchEnd as Ending
 use Rattle.resolvo_sat.specs.First.{IsFirstPick, ArePreferred}
-use Rattle.resolvo_sat.specs.Numbered.{meaning, meanings, known_of, Spells, AreCalledFor, AreCoded, IsTurnEnd, Denies}
+use Rattle.resolvo_sat.specs.Numbered.{meanings, known_of, AreCalledFor, AreCoded, IsTurnEnd, Denies}
 use Rattle.resolvo_sat.proofs.FirstLemmas.{end_preferred}
 use Rattle.resolvo_sat.proofs.Meanings.{meaning_in, meaning_from, quiet_meaning, trail_meaning, derived_implied}
-use Rattle.resolvo_sat.proofs.Reached.{met_by_literal}
 use Rattle.resolvo_sat.proofs.Ended.{turn_is_right, keeping_without_softs, refusal_is_right}
 
 module _ {N S : Type 0} (same : S → S → Bool) (exact : IsExact same) (same_name : N → N → Bool) (names : IsExact same_name) (p : Packages N S) (root : Rules) (origin : ℕ → Atom N S) (rules : Rule N S → Type 0) (registered : S → Type 0) where

@@ -1,9 +1,9 @@
 -- What is encoded of one parent at a time.
-use Rattle.std.specs.Prelude.{◌≡◌, ◌⊎◌, Bool, true, false, List, Option, Some, Contains}
+use Rattle.std.specs.Prelude.{◌≡◌, ◌⊎◌, Bool, true, List, Option, Some, Contains}
 use Rattle.resolvo_pool_core.specs.declared.id.VersionSetId.{VersionSetId}
 use Rattle.resolvo_pool_core.specs.declared.requirement.ConditionalRequirement.{ConditionalRequirement}
 use Rattle.resolvo_pool_core.specs.RuleKeeping.{Packages, Rules, is_unknown, is_outside, rules_for}
-use Rattle.resolvo_sat.specs.RuleClauses.{Rule, cases_for, case_holds, IsForbiddenIn, IsForbidden}
+use Rattle.resolvo_sat.specs.RuleClauses.{Rule, cases_for, IsForbiddenIn, IsForbidden}
 use Rattle.resolvo_sat.specs.SearchEnd.{IsNeedEncoded}
 
 -- a case of a parent's need that has no clause until it holds
@@ -19,7 +19,3 @@ module _ {N S : Type 0} (same : S → S → Bool) (p : Packages N S) where
     pub limit : (v : VersionSetId) (s : S) → Contains (rules_for same p root parent).constraints v → is_outside same p v s ≡ true → rules (Rule.limits parent v s) ⊎ (rules (Rule.limits_outside parent v) × rules (Rule.is_out v s))
     pub forbid : (v : VersionSetId) (s : S) → Contains (rules_for same p root parent).constraints v → IsForbiddenIn same p (p.set_package v) s → IsForbidden rules s
     pub unknown : (s : S) → parent ≡ Some s → is_unknown (p.dependencies_of s) ≡ true → IsForbidden rules s
-
-  -- no case that waits holds in the set
-  abbrev pub NoneFires : (Deferred S → Type 0) → List S → Type 0
-  NoneFires waiting members = (d : Deferred S) → waiting d → case_holds same p members d.case ≡ false

@@ -1,4 +1,4 @@
-use Rattle.std.proofs.Common.{◌≡◌, ◌<◌, ◌≤◌, ◌==◌, ℕ, List, Bool, false, length, sym, ◌∙◌, ap, subst, arith, le-ltb}
+use Rattle.std.proofs.Common.{◌<◌, ◌≤◌, ◌==◌, ℕ, List, Bool, false, length, sym, ◌∙◌, ap, arith, le-ltb}
 use Rattle.std.specs.Prelude.{slice_index_or}
 use Rattle.resolvo_sat.proofs.FlagLemmas.{flag_at, flag_past}
 use Rattle.resolvo_sat.proofs.marks.Marks.contains.Goals as goal

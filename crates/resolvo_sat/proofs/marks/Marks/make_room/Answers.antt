@@ -1,6 +1,6 @@
-use Rattle.std.proofs.Common.{◌≡◌, ◌<◌, ◌≤◌, ℕ, List, Bool, length, sym, ◌∙◌, ap, subst, arith}
+use Rattle.std.proofs.Common.{◌≡◌, ◌≤◌, ℕ, List, length, sym, ◌∙◌, ap, subst, arith}
 use Rattle.std.specs.Prelude.{◌++◌, ◌∷◌, [], slice_index_or, false}
-use Rattle.resolvo_sat.specs.Marks.{flags, AreUpTo, AreSame}
+use Rattle.resolvo_sat.specs.Marks.{flags, AreUpTo}
 use Rattle.resolvo_sat.proofs.FlagLemmas.{flags_long, flag_push, up_push}
 use Rattle.resolvo_sat.proofs.marks.Marks.make_room.Goals as goal
 

@@ -1,4 +1,4 @@
-use Rattle.std.proofs.Common.{◌≡◌, ℕ, ◌-◌, ◌+◌, length}
+use Rattle.std.proofs.Common.{◌≡◌, ◌-◌, ◌+◌, length}
 use Rattle.resolvo_sat.specs.Marks.{flags, AreUpTo, AreSame}
 use Rattle.resolvo_sat.proofs.marks.Marks.make_room.Given as goal
 

@@ -1,5 +1,5 @@
 use Rattle.std.specs.Prelude.{slice_set}
-use Rattle.std.proofs.Common.{◌≡◌, ◌<◌, ℕ, List, Bool, length, sym, ◌∙◌, ap, subst, arith}
+use Rattle.std.proofs.Common.{◌≡◌, ◌<◌, ℕ, List, Bool, length, ap, subst, arith}
 use Rattle.resolvo_sat.specs.Marks.{flags, IsMarked}
 use Rattle.resolvo_sat.proofs.FlagLemmas.{flags_long, flag_set, up_set}
 use Rattle.resolvo_sat.proofs.marks.Marks.mark.Goals as goal
