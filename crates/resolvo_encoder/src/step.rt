@@ -16,6 +16,7 @@ use resolvo_pool_core::id_map::ScoreMap;
 use resolvo_pool_core::want::R;
 use resolvo_sat::analyze::FinalConflict;
 use resolvo_sat::propagate_and_learn::StepResult;
+use resolvo_store_core::literal::Literal;
 use resolvo_store_core::pick::NextDecision;
 use std::alloc::Global;
 use std::fmt::Debug;
@@ -137,9 +138,15 @@ impl<N: Copy + Exact + Hash + Debug + Drop, S: Copy + Exact + Hash + Debug> Enco
             return false;
         };
         let search = &self.coding.search;
+        let (own, shared) = search.literals(clause);
+        self.is_any_above(own) || self.is_any_above(shared)
+    }
+
+    /// Whether one of these literals got its value above the turn's base level.
+    fn is_any_above(&self, literals: &[Literal]) -> bool {
+        let search = &self.coding.search;
         let values = search.tracker.map();
-        search.literals(clause).iter().any(|literal| values.level(literal.variable())
-            > search.base_level)
+        literals.iter().any(|literal| values.level(literal.variable()) > search.base_level)
     }
 
     /// Propagates; then learns from a falsified clause, or decides where there is none.

@@ -1,6 +1,6 @@
 //! Writes the steps of clauses: a rule as it is, a derived clause with the atoms of its literals.
 //! The root's literals and its clause are left out, so clause n is step n - 1.
-ghost use Rattle.std.specs.Prelude.{◌≡◌, ◌<◌, length, map, IfOk, IsOkUnless};
+ghost use Rattle.std.specs.Prelude.{◌≡◌, ◌<◌, ◌++◌, length, map, IfOk, IsOkUnless};
 ghost use Rattle.resolvo_pool_core.specs.declared.want.Want.TheVariants.{Memory};
 ghost use Rattle.resolvo_sat.specs.State.{count_of};
 ghost use Rattle.resolvo_sat.specs.Steps.{AreInRange};
@@ -40,13 +40,25 @@ pub(crate) fn write_step<N: Copy + Exact + Hash + Debug, S: Copy + Exact + Hash 
     match write_rule(&coding.kinds, kind, alloc)? {
         Some(rule) => Ok(ProofStep::Rule(rule)),
         None => {
-            let literals = coding.search.clauses.literals(number);
+            let (own, shared) = coding.search.clauses.literals(number);
             let causes = coding.search.clauses.causes(number);
+            let literals = joined(alloc, own, shared)?;
             // split for the prover: error and answer
-            let step = write_derived(alloc, coding, literals, causes)?;
+            let step = write_derived(alloc, coding, literals.as_slice(), causes)?;
             Ok(step)
         }
     }
+}
+
+/// Some literals, and then others.
+fn joined(alloc: Global, first: &[Literal], more: &[Literal]) -> R<Vec<Literal>>
+    ensures joined { IfOk result (λ literals. literals.items ≡ first.now ++ more.now) }
+    ensures refusal { IsOkUnless result Memory }
+{
+    let mut literals = Vec::new(alloc);
+    literals.extend_from_slice(first)?;
+    literals.extend_from_slice(more)?;
+    Ok(literals)
 }
 
 /// A derived step of these literals and antecedents.

@@ -129,7 +129,7 @@ clause_pushed f ls more others ends p rising to causes =
 -- ---- the causes of a number
 
 -- a number is one of those from this one on, and below the count
-numbered_at : (count low : ℕ) (caused : List ℕ) (i : ℕ) → AreNumbered count low caused → i < length caused → (low ≤ get_or caused i 0) × (get_or caused i 0 < count)
+pub numbered_at : (count low : ℕ) (caused : List ℕ) (i : ℕ) → AreNumbered count low caused → i < length caused → (low ≤ get_or caused i 0) × (get_or caused i 0 < count)
 numbered_at count low [] i are below = absurd (omega arith)
 numbered_at count low (c ∷ caused) zero are below = (are.0, are.1)
 numbered_at count low (c ∷ caused) (suc i) are below =
@@ -137,11 +137,11 @@ numbered_at count low (c ∷ caused) (suc i) are below =
     let more : suc c ≤ get_or caused i 0 = rest.0 in
     (omega (arith, are.0), rest.1)
 
-numbered_more : (few many low : ℕ) (caused : List ℕ) → few ≤ many → AreNumbered few low caused → AreNumbered many low caused
+pub numbered_more : (few many low : ℕ) (caused : List ℕ) → few ≤ many → AreNumbered few low caused → AreNumbered many low caused
 numbered_more few many low [] le are = tt
 numbered_more few many low (c ∷ caused) le are = (are.0, omega (arith, are.1), numbered_more few many (suc c) caused le are.2)
 
-numbered_pushed : (count many low : ℕ) (caused : List ℕ) → low ≤ count → count < many → AreNumbered count low caused → AreNumbered many low (caused ++ count ∷ [])
+pub numbered_pushed : (count many low : ℕ) (caused : List ℕ) → low ≤ count → count < many → AreNumbered count low caused → AreNumbered many low (caused ++ count ∷ [])
 numbered_pushed count many low [] le below are = (le, below, tt)
 numbered_pushed count many low (c ∷ caused) le below are =
     let early : c < count = are.1 in

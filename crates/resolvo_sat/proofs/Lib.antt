@@ -8,6 +8,7 @@ pub mod FlagLemmas
 pub mod WalkLemmas
 pub mod Clauses
 pub mod ArenaLemmas
+pub mod SharedLemmas
 pub mod Values
 pub mod StepLemmas
 pub mod ExtendLemmas
@@ -18,6 +19,7 @@ pub mod Readiness
 pub mod VisitLemmas
 pub mod StartLemmas
 pub mod FreeLemmas
+pub mod BothLemmas
 pub mod CompleteLemmas
 pub mod SetLemmas
 pub mod PendingLemmas

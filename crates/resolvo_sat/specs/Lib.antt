@@ -2,6 +2,7 @@ pub mod Known
 pub mod Entries
 pub mod AnalyzeFinal
 pub mod Clauses
+pub mod Shared
 pub mod State
 pub mod Marks
 pub mod Analysis

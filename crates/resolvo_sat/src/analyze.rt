@@ -1,5 +1,5 @@
 //! Conflict analysis: what is learnt from a falsified clause, by a walk back along the trail.
-ghost use Rattle.std.specs.Prelude.{◌≡◌, ◌≤◌, ◌<◌, ◌+◌, ◌-◌, ◌∷◌, true, false, not, if◌then◌else◌, length, max, min, slice_index_or, IfOk, OnOk, IsOkUnless};
+ghost use Rattle.std.specs.Prelude.{◌≡◌, ◌≤◌, ◌<◌, ◌+◌, ◌-◌, ◌∷◌, ◌++◌, true, false, not, if◌then◌else◌, length, max, min, slice_index_or, IfOk, OnOk, IsOkUnless};
 ghost use Rattle.std.specs.List.Sorted.{IsPermutation};
 ghost use Rattle.resolvo_pool_core.specs.declared.want.Want.TheVariants.{Memory};
 ghost use Rattle.resolvo_sat.specs.Known.{IsFalseUnder, clause_at};
@@ -11,7 +11,7 @@ ghost use Rattle.resolvo_sat.specs.Analysis.{Seen, Collects, IsAppended, MayBeAp
 use crate::marks::Marks;
 use crate::state::SatState;
 use resolvo_pool_core::id::ClauseId;
-use resolvo_pool_core::want::R;
+use resolvo_pool_core::want::{R, Want};
 use resolvo_store_core::decision::Entry;
 use resolvo_store_core::decision_map::DecisionMap;
 use resolvo_store_core::literal::Literal;
@@ -62,6 +62,28 @@ struct Others {
 /// time is appended to those that were met before, the root's too. Returns how many variables
 /// weren't marked before, and how many of these are of this level.
 pub(crate) fn mark_seen(
+    seen: &mut Marks,
+    met: &mut Vec<Literal>,
+    own: &[Literal],
+    shared: &[Literal],
+    values: &DecisionMap,
+    level: u32,
+) -> R<Marked>
+    ensures marked { IfOk result (λ _. Seen (own.now ++ shared.now) seen.old seen.new) }
+    ensures collected { IfOk result
+        (λ _. Collects (own.now ++ shared.now) seen.old met.old.items seen.new
+        met.new.items) }
+    ensures few { IfOk result (λ m. MarksAtMost m.all seen.old seen.new) }
+    ensures refusal { IsOkUnless result Memory }
+{
+    let first = mark_each(seen, met, own, values, level)?;
+    let more = mark_each(seen, met, shared, values, level)?;
+    let all = first.and(more)?;
+    Ok(all)
+}
+
+/// The same for the literals of one list.
+fn mark_each(
     seen: &mut Marks,
     met: &mut Vec<Literal>,
     literals: &[Literal],
@@ -142,6 +164,20 @@ impl Marked {
         }
     }
 
+    /// Both counts together, exactly.
+    fn and(self, more: Marked) -> R<Marked>
+        ensures sum { IfOk result (λ m. m.all ≡ self.all + more.all) }
+        ensures refusal { IsOkUnless result Memory }
+    {
+        let Some(all) = self.all.checked_add(more.all) else {
+            return Err(Want::Memory);
+        };
+        Ok(Marked {
+            all,
+            of_level: self.of_level.saturating_add(more.of_level),
+        })
+    }
+
     /// One less of both, where a marked entry was passed.
     pub(crate) fn passed(self) -> Marked
         ensures { result.all ≡ self.all - 1 }
@@ -169,7 +205,8 @@ impl SatState {
         let values = self.tracker.map();
         let level = self.top_level();
         let mut met = Vec::new(alloc);
-        let mut marked = mark_seen(seen, &mut met, self.literals(falsified), values, level)?;
+        let literals = self.literals(falsified);
+        let mut marked = mark_seen(seen, &mut met, literals.0, literals.1, values, level)?;
         let mut causes = Vec::new(alloc);
         causes.push(falsified)?;
         let mut kept = Vec::new(alloc);
@@ -188,7 +225,7 @@ impl SatState {
                 } else {
                     causes.push(entry.decision.derived_from)?;
                     let reason = self.literals(entry.decision.derived_from);
-                    let more = mark_seen(seen, &mut met, reason, values, level)?;
+                    let more = mark_seen(seen, &mut met, reason.0, reason.1, values, level)?;
                     marked = marked.plus(more);
                 }
             }

@@ -70,7 +70,7 @@ impl SatState {
         let values = self.tracker.map();
         let reason = self.literals(entry.decision.derived_from);
         // The entry's own variable is among those of its reason.
-        let first = mark_seen(&mut seen, &mut met, reason, values, 0)?;
+        let first = mark_seen(&mut seen, &mut met, reason.0, reason.1, values, 0)?;
         let begun = first.passed();
         let mut marked = begun;
         let mut causes = Vec::new(alloc);
@@ -88,7 +88,7 @@ impl SatState {
                 } else {
                     causes.push(earlier.decision.derived_from)?;
                     let reason = self.literals(earlier.decision.derived_from);
-                    let more = mark_seen(&mut seen, &mut met, reason, values, 0)?;
+                    let more = mark_seen(&mut seen, &mut met, reason.0, reason.1, values, 0)?;
                     marked = marked.plus(more);
                 }
             }

@@ -7,7 +7,7 @@ ghost use Rattle.resolvo_sat.specs.State.{IsState, count_of, history};
 ghost use Rattle.resolvo_sat.specs.Propagation.{IsReady, AreCovered};
 ghost use Rattle.resolvo_sat.specs.Begin.{Begun, AddsVariable};
 
-use crate::clause_arena::ClauseArena;
+use crate::clause_database::ClauseDatabase;
 use crate::marks::Marks;
 use crate::state::{SatState, VariableKind};
 use crate::watch_lists::WatchLists;
@@ -65,11 +65,11 @@ pub fn begin(alloc: Global) -> R<(SatState, WatchLists)>
 }
 
 /// The clauses at the start: the one that asserts the root, alone.
-fn root_clause(alloc: Global) -> R<ClauseArena>
+fn root_clause(alloc: Global) -> R<ClauseDatabase>
     ensures clause { IfOk result (λ c. c ≡ sat_clause (yes root ∷ []) [] ∷ []) }
     ensures refusal { IsOkUnless result Memory }
 {
-    let mut clauses = ClauseArena::new(alloc);
+    let mut clauses = ClauseDatabase::new(alloc);
     clauses.push(&[Literal::new(VariableId(0), false)], &[])?;
     Ok(clauses)
 }

@@ -54,7 +54,8 @@ impl ClauseArena {
 
     /// How many clauses there are.
     pub fn len(&self) -> usize
-        ensures { result ≡ length self.now }
+        ensures count { result ≡ length self.now }
+        ensures few { result ≤ 4294967295 }
     {
         self.ends.len()
     }
@@ -138,7 +139,7 @@ impl ClauseArena {
 }
 
 /// The place of a clause among those that have causes.
-fn place_of(caused: &[u32], clause: u32) -> Option<usize>
+pub(crate) fn place_of(caused: &[u32], clause: u32) -> Option<usize>
     requires { (count : ℕ) × AreNumbered count 0 caused.now }
     ensures { IsPlaceOf caused.now clause result }
 {

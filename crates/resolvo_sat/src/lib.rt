@@ -12,6 +12,7 @@ pub mod assign;
 pub mod backjump;
 pub mod begin;
 pub mod clause_arena;
+pub mod clause_database;
 pub mod guard;
 pub mod marks;
 pub mod propagate;

@@ -1,7 +1,7 @@
 //! Unit propagation over the trail. It continues at the propagation head, `qhead`. In each clause
 //! with a watched literal that became false before the head, the other watched literal is true.
 //! Clauses that were added beside a false literal are pending: they are visited first.
-ghost use Rattle.std.specs.Prelude.{◌≡◌, ◌<◌, ◌≤◌, ◌+◌, slice_get, take, length, Some, true, IfOk, IsOkUnless};
+ghost use Rattle.std.specs.Prelude.{◌≡◌, ◌<◌, ◌≤◌, ◌+◌, ◌++◌, slice_get, take, length, Some, true, IfOk, IsOkUnless};
 ghost use Rattle.resolvo_pool_core.specs.declared.want.Want.TheVariants.{Memory};
 ghost use Rattle.resolvo_store_core.specs.Signed.{negation, has};
 ghost use Rattle.resolvo_store_core.specs.Watches.{watchers, pair_at, IsAt};
@@ -44,11 +44,66 @@ impl SatState {
         ensures { IsFree (made_true (history self.now)) (clause_at (clauses_of self.now) clause.0)
             watched.now result }
     {
-        let literals = self.literals(clause);
+        let (own, shared) = self.literals(clause);
+        if shared.is_empty() {
+            return self.free_behind(own, watched, passed);
+        }
+        if passed == 0 {
+            return self.free_of_both(own, shared, watched);
+        }
+        self.free_shared_first(own, shared, watched, passed.saturating_sub(own.len()))
+    }
+
+    /// The same among these literals.
+    fn free_behind(
+        &self,
+        literals: &[Literal],
+        watched: &WatchedLiterals,
+        passed: usize,
+    ) -> Option<Literal>
+        requires { IsState self.now }
+        ensures { IsFree (made_true (history self.now)) literals.now watched.now result }
+    {
         let passed = passed.min(literals.len());
         match self.free_among(&literals[passed..], watched) {
             Some(free) => Some(free),
             None => self.free_among(&literals[..passed], watched),
+        }
+    }
+
+    /// The first of these and then of those literals that is neither watched nor false.
+    fn free_of_both(
+        &self,
+        literals: &[Literal],
+        more: &[Literal],
+        watched: &WatchedLiterals,
+    ) -> Option<Literal>
+        requires { IsState self.now }
+        ensures { IsFree (made_true (history self.now)) (literals.now ++ more.now) watched.now
+            result }
+    {
+        match self.free_among(literals, watched) {
+            Some(free) => Some(free),
+            None => self.free_among(more, watched),
+        }
+    }
+
+    /// A literal to watch of a clause whose own ones are looked at last, with so many of those that
+    /// it shares.
+    fn free_shared_first(
+        &self,
+        own: &[Literal],
+        shared: &[Literal],
+        watched: &WatchedLiterals,
+        passed: usize,
+    ) -> Option<Literal>
+        requires { IsState self.now }
+        ensures { IsFree (made_true (history self.now)) (own.now ++ shared.now) watched.now result }
+    {
+        let passed = passed.min(shared.len());
+        match self.free_among(&shared[passed..], watched) {
+            Some(free) => Some(free),
+            None => self.free_of_both(own, &shared[..passed], watched),
         }
     }
 
@@ -71,13 +126,25 @@ impl SatState {
         requires state { IsState self.now }
         requires in_range { clause.0 < length self.now.clauses }
     {
-        let literals = self.literals(clause);
-        for place in passed..literals.len() {
+        let (own, shared) = self.literals(clause);
+        let first = self.false_among(own, passed);
+        if first < own.len() || shared.is_empty() {
+            return first.max(passed);
+        }
+        let more = self.false_among(shared, passed.saturating_sub(own.len()));
+        own.len().saturating_add(more).max(passed)
+    }
+
+    /// How many of these literals are false before the first other one from a place on.
+    fn false_among(&self, literals: &[Literal], from: usize) -> usize
+        requires { IsState self.now }
+    {
+        for place in from..literals.len() {
             if !self.is_false(literals[place]) {
                 return place;
             }
         }
-        passed.max(literals.len())
+        literals.len()
     }
 
     /// Notes how many of a clause's first literals are false at the first level: those that are false

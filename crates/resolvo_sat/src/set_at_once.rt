@@ -167,11 +167,25 @@ impl SatState {
         if self.is_true(literal) {
             return Ok(());
         }
-        if !is_among(self.literals(clause), literal) {
+        if !self.has_literal(clause, literal) {
             return Ok(());
         }
         self.assign(clause, literal)?;
         Ok(())
+    }
+}
+
+impl SatState {
+    /// Whether a clause has a literal.
+    fn has_literal(&self, clause: ClauseId, literal: Literal) -> bool
+        requires { clause.0 < length self.now.clauses }
+        ensures { result ≡ true → has (clause_at (clauses_of self.now) clause.0) literal ≡ true }
+    {
+        let (own, shared) = self.literals(clause);
+        if is_among(own, literal) {
+            return true;
+        }
+        is_among(shared, literal)
     }
 }
 

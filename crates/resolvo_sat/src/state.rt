@@ -1,12 +1,12 @@
 //! State of the SAT core: variables, clauses, and the trail.
-ghost use Rattle.std.specs.Prelude.{◌≡◌, ◌<◌, ◌≤◌, ◌+◌, ◌∷◌, length};
+ghost use Rattle.std.specs.Prelude.{◌≡◌, ◌<◌, ◌≤◌, ◌+◌, ◌∷◌, ◌++◌, length};
 ghost use Rattle.std.specs.Bool.{Decides};
 ghost use Rattle.resolvo_sat.specs.Entries.{before, top_level};
 ghost use Rattle.resolvo_sat.specs.State.{IsState, history, clauses_of};
 ghost use Rattle.resolvo_sat.specs.Known.{clause_at};
 ghost use Rattle.resolvo_sat.specs.Analysis.{IsSolvable};
 
-use crate::clause_arena::ClauseArena;
+use crate::clause_database::ClauseDatabase;
 use resolvo_pool_core::id::{ClauseId, DenseIndex, VariableId};
 use resolvo_store_core::decision::Entry;
 use resolvo_store_core::decision_tracker::DecisionTracker;
@@ -28,7 +28,7 @@ pub enum VariableKind {
 /// watched literal false, its true guard is at its level or below, or else not above `guard_level`.
 pub struct SatState {
     pub variables: Vec<VariableKind>,
-    pub clauses: ClauseArena,
+    pub clauses: ClauseDatabase,
     /// The trail. Its own propagation head is that of `ClauseStore`; the search has `qhead`.
     pub tracker: DecisionTracker,
     pub base_level: u32,
@@ -74,10 +74,11 @@ impl SatState {
         }
     }
 
-    /// The literals of a clause.
-    pub fn literals(&self, clause: ClauseId) -> &[Literal]
+    /// The literals of a clause: its own ones, and then those that it shares.
+    #[inline(always)]
+    pub fn literals(&self, clause: ClauseId) -> (&[Literal], &[Literal])
         requires { clause.0 < length self.now.clauses }
-        ensures { result.now ≡ clause_at (clauses_of self.now) clause.0 }
+        ensures { result.0.now ++ result.1.now ≡ clause_at (clauses_of self.now) clause.0 }
     {
         self.clauses.literals(clause.to_index())
     }

@@ -21,6 +21,7 @@ use resolvo_pool_core::id_map::ScoreMap;
 use resolvo_pool_core::want::R;
 use resolvo_sat::analyze::FinalConflict;
 use resolvo_state::solver_state::SolverState;
+use resolvo_store_core::literal::Literal;
 use std::alloc::Global;
 
 /// The activity of packages: bump and decay.
@@ -64,12 +65,28 @@ fn bump_activity<A: PackageSource, C: ScoreMap<A::NameId>>(
     requires clause { clause.0 < length coding.now.search.clauses }
     ensures { IsOkUnless result Memory }
 {
-    for literal in coding.search.literals(clause) {
+    let (own, shared) = coding.search.literals(clause);
+    bump_packages(answers, coding, own, scores, activity.added)?;
+    bump_packages(answers, coding, shared, scores, activity.added)?;
+    scores.decay(activity.decay);
+    Ok(())
+}
+
+/// Bumps the scores of the packages of these literals.
+fn bump_packages<A: PackageSource, C: ScoreMap<A::NameId>>(
+    answers: &A,
+    coding: &SolverState<A::NameId, A::SolvableId>,
+    literals: &[Literal],
+    scores: &mut Scores<A::NameId, C>,
+    added: u64,
+) -> R<()>
+    ensures { IsOkUnless result Memory }
+{
+    for literal in literals {
         if let Some(solvable) = coding.solvable(literal.variable()) {
-            scores.bump(answers.package(solvable), activity.added)?;
+            scores.bump(answers.package(solvable), added)?;
         }
     }
-    scores.decay(activity.decay);
     Ok(())
 }
 

@@ -23,9 +23,9 @@ loop-place-init c =
     chosen _ _ _ _ c.push.ensures.items (ap is_ok c.in_ok-push.was) ∙ ap (λ (l : List ClauseId). l ++ c.args.falsified ∷ []) c.new-causes.ensures.items in
     let whole : length c.stack-place.result.now ≡ length s.tracker.trail = ap length c.stack-place.ensures.trail in
     let bound : c.args.falsified.0 < length (clauses_of s) = omega (arith, length-lists s.clauses, c.requires.in_range) in
-    let marked : Seen (clause_at (clauses_of s) c.args.falsified.0) c.begin.new.self c.mark_seen.new.seen = subst (λ (l : List Signed). Seen l c.begin.new.self c.mark_seen.new.seen) c.literals.ensures c.in_ok-marked.ensures.marked in
-    let collected : Collects (clause_at (clauses_of s) c.args.falsified.0) c.begin.new.self [] c.mark_seen.new.seen c.mark_seen.new.met.items = subst (λ (l : List Signed). Collects l c.begin.new.self [] c.mark_seen.new.seen c.mark_seen.new.met.items) c.literals.ensures
-    (subst (λ (e : List Signed). Collects c.literals.result.now c.begin.new.self e c.mark_seen.new.seen c.mark_seen.new.met.items) c.new-met.ensures.items c.in_ok-marked.ensures.collected) in
+    let marked : Seen (clause_at (clauses_of s) c.args.falsified.0) c.begin.new.self c.mark_seen.new.seen = subst (λ (l : List Signed). Seen l c.begin.new.self c.mark_seen.new.seen) c.literals-literals.ensures c.in_ok-marked.ensures.marked in
+    let collected : Collects (clause_at (clauses_of s) c.args.falsified.0) c.begin.new.self [] c.mark_seen.new.seen c.mark_seen.new.met.items = subst (λ (l : List Signed). Collects l c.begin.new.self [] c.mark_seen.new.seen c.mark_seen.new.met.items) c.literals-literals.ensures
+    (subst (λ (e : List Signed). Collects (c.literals-literals.result.0.now ++ c.literals-literals.result.1.now) c.begin.new.self e c.mark_seen.new.seen c.mark_seen.new.met.items) c.new-met.ensures.items c.in_ok-marked.ensures.collected) in
     record {
       met = met_starts s c.args.falsified c.begin.new.self c.mark_seen.new.seen c.mark_seen.new.met.items c.requires.falls c.begin.ensures collected;
       few = few_begun c.in_ok-marked.marked.all (count_of s) (clauses_of s) c.begin.new.self c.mark_seen.new.seen (before s.tracker.trail (length c.stack-place.result.now)) (trail_before (count_of s) (clauses_of s) s.tracker.trail (length c.stack-place.result.now) c.requires.state.trail) c.begin.ensures c.in_ok-marked.ensures.few;

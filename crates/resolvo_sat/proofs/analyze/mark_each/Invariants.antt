@@ -1,6 +1,6 @@
 use Rattle.std.proofs.Common.{◌≤◌, take}
 use Rattle.resolvo_sat.specs.Analysis.{Seen, Collects, MarksAtMost}
-use Rattle.resolvo_sat.proofs.analyze.mark_seen.Given as goal
+use Rattle.resolvo_sat.proofs.analyze.mark_each.Given as goal
 
 abbrev pub invariant-loop-literal : goal.invariant-loop-literal
 invariant-loop-literal l = record {
