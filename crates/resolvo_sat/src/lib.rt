@@ -4,7 +4,7 @@
 #![tactic(auto)]
 
 pub mod add_clause;
-pub mod add_pair;
+pub mod add_rule;
 pub mod add_ties;
 pub mod analyze;
 pub mod analyze_final;
