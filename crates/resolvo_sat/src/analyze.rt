@@ -18,7 +18,7 @@ use resolvo_store_core::literal::Literal;
 use std::alloc::Global;
 
 /// The result of a conflict analysis.
-#[derive(Debug, Drop)]
+#[derive(Drop)]
 pub enum Analysis {
     /// The decisions before the turn, and the assumption that began it, contradict each other.
     Refused(FinalConflict),
@@ -36,7 +36,7 @@ pub struct FinalConflict {
 
 /// A learnt clause, with its antecedents in the order of a RUP check. After a jump to the level,
 /// all its literals but the asserting one are false.
-#[derive(Debug, Drop)]
+#[derive(Drop)]
 pub struct Learnt {
     pub literals: Vec<Literal>,
     pub causes: Vec<ClauseId>,
@@ -45,14 +45,14 @@ pub struct Learnt {
 }
 
 /// How many entries are marked, and how many of them are of the conflict's level.
-#[derive(Clone, Copy, Debug)]
+#[derive(Clone, Copy)]
 pub(crate) struct Marked {
     pub all: usize,
     pub of_level: usize,
 }
 
 /// What a learnt clause has beside its asserting literal, and the highest level of it.
-#[derive(Debug, Drop)]
+#[derive(Drop)]
 struct Others {
     literals: Vec<Literal>,
     level: u32,

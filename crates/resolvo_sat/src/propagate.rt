@@ -20,7 +20,7 @@ use resolvo_store_core::watch_map::WatchMapCursor;
 use resolvo_store_core::watched_literals::WatchedLiterals;
 
 /// The outcome of visiting a clause.
-#[derive(Clone, Copy, Debug)]
+#[derive(Clone, Copy)]
 pub enum WatchVisit {
     /// It keeps its watched literals; the other one is true.
     Kept,

@@ -12,7 +12,7 @@ use resolvo_pool_core::want::R;
 use std::alloc::Global;
 
 /// The outcome of one step of the search.
-#[derive(Debug, Drop)]
+#[derive(Drop)]
 pub enum StepResult {
     /// Nothing is left to propagate.
     Complete,

@@ -13,7 +13,7 @@ use resolvo_store_core::decision_tracker::DecisionTracker;
 use resolvo_store_core::literal::Literal;
 
 /// What a variable represents.
-#[derive(Clone, Copy, Debug, PartialEq, Eq)]
+#[derive(Clone, Copy, PartialEq, Eq)]
 pub enum VariableKind {
     /// The problem itself; always true.
     Root,

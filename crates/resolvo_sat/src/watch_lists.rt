@@ -13,21 +13,21 @@ use resolvo_store_core::watched_literals::WatchedLiterals;
 use resolvo_store_core::watched_pair::WatchedPair;
 
 /// A unit clause.
-#[derive(Clone, Copy, Debug)]
+#[derive(Clone, Copy)]
 pub struct UnitClause {
     pub clause: ClauseId,
     pub literal: Literal,
 }
 
 /// A literal that a new clause sets at once, and another one of it, which is false.
-#[derive(Clone, Copy, Debug)]
+#[derive(Clone, Copy)]
 pub struct Start {
     pub clause: ClauseId,
     pub watched: WatchedLiterals,
 }
 
 /// Notes that the trail's first entries make the first unit clauses of both lists true.
-#[derive(Clone, Copy, Debug)]
+#[derive(Clone, Copy)]
 pub struct UnitsDone {
     /// How many entries these are. The note holds as long as so many are propagated.
     pub entries: usize,
