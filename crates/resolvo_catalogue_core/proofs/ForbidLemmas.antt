@@ -2,13 +2,12 @@
 use Rattle.std.proofs.Common.{◌≡◌, ◌≢◌, inl, inr, ℕ, zero, suc, Bool, true, false, not, ◌==◌, List, take, Option, Some, None, refl, sym, ap, subst, ◌∙◌}
 use Rattle.std.specs.Prelude.{slice_get, option_and_then}
 use Rattle.std.specs.Option.{option_map_or}
-use Rattle.std.specs.BTreeMap.{get_by_text}
 use Rattle.std.proofs.lemmas.Bool.Decides.{Decides-eqb}
 use Rattle.std.proofs.lemmas.Option.{slice_get-get_or}
 use Rattle.resolvo_text.specs.Line.{Version, Line, Skipped, Listed, Needs, Limits, Unknown, Lock, Favour, Exclude, Many, Wish}
 use Rattle.resolvo_catalogue_core.specs.Grammar.{line_at, owner_below}
 use Rattle.resolvo_catalogue_core.specs.Questions.{LineIs, Locks, LocksAnother, Excludes, Forbids, IsOnly, IsVersionLine}
-use Rattle.resolvo_catalogue_core.specs.Table.{line_of, IsKindOf, IsTable, lines_in, versions_in, kinds_in}
+use Rattle.resolvo_catalogue_core.specs.Table.{line_of, IsKindOf, IsTable, lines_in, versions_in, kinds_in, mark_of}
 use Rattle.resolvo_catalogue_core.specs.declared.kept_rule.KeptRule.TheVariants as kept
 use Rattle.resolvo_catalogue_core.specs.Kept.{nowhere, is_lock_of_another}
 use Rattle.resolvo_terms.specs.Terms.{Terms}
@@ -57,7 +56,7 @@ lock_at t keeps (suc n) w k at =
     (h.0, h.1, ap (λ (o : Option LineKind). option_map_or (λ r. is_lock_of_another r k) (option_and_then rule_of o) false) s.1 ∙ h.2)
 
 -- the line that locks a version of the package, with the version
-lock_line : (t : Table) → IsTable t → (name : List ℕ) (line : ℕ) → get_by_text t.locks name ≡ Some line → (w : Version) × (line_at (lines_in t) line ≡ Some (Lock w)) × (w.name ≡ name)
+lock_line : (t : Table) → IsTable t → (name : List ℕ) (line : ℕ) → mark_of t.terms.names t.locks name ≡ Some line → (w : Version) × (line_at (lines_in t) line ≡ Some (Lock w)) × (w.name ≡ name)
 lock_line t keeps name line some = from_line ((keeps.locks name line).0 some)
   where
     from_line : LineIs (lines_in t) line (Locks name) → (w : Version) × (line_at (lines_in t) line ≡ Some (Lock w)) × (w.name ≡ name)
@@ -77,44 +76,44 @@ same_version w v names numbers = ap (λ (n : List ℕ). let x : Version = record
 
 -- ---- the lock of the version's package
 
-pub no_lock : (t : Table) → IsTable t → (v : Version) (name : List ℕ) → name ≡ v.name → get_by_text t.locks name ≡ None → IsOnly None (λ n. LineIs (lines_in t) n (LocksAnother v))
-no_lock t keeps v name same none = λ n. (
+pub no_lock : (t : Table) → IsTable t → (v : Version) → mark_of t.terms.names t.locks v.name ≡ None → IsOnly None (λ n. LineIs (lines_in t) n (LocksAnother v))
+no_lock t keeps v none = λ n. (
   λ e. absurd (none_is_some n e),
   λ h.
       let some = (keeps.locks v.name n).1 (locks_of_another (lines_in t) v n h) in
-      absurd (none_is_some n (sym none ∙ ap (λ (x : List ℕ). get_by_text t.locks x) same ∙ some)),
+      absurd (none_is_some n (sym none ∙ some)),
 )
 
 -- where the package's lock is known, no other line locks another version
-one_lock : (t : Table) → IsTable t → (v : Version) (name : List ℕ) (line : ℕ) → name ≡ v.name → get_by_text t.locks name ≡ Some line → (n : ℕ) → LineIs (lines_in t) n (LocksAnother v) → line ≡ n
-one_lock t keeps v name line same some n h =
+one_lock : (t : Table) → IsTable t → (v : Version) (line : ℕ) → mark_of t.terms.names t.locks v.name ≡ Some line → (n : ℕ) → LineIs (lines_in t) n (LocksAnother v) → line ≡ n
+one_lock t keeps v line some n h =
     let other = (keeps.locks v.name n).1 (locks_of_another (lines_in t) v n h) in
-    let both : ◌≡◌ {A = Option ℕ} (Some line) (Some n) = sym some ∙ ap (λ (x : List ℕ). get_by_text t.locks x) same ∙ other in cc
+    let both : ◌≡◌ {A = Option ℕ} (Some line) (Some n) = sym some ∙ other in cc
 
-pub other_lock : (t : Table) → IsTable t → (v : Version) (k : ℕ) (name : List ℕ) (line : ℕ) → slice_get (versions_in t) k ≡ Some v → name ≡ v.name → get_by_text t.locks name ≡ Some line → is_other t line k ≡ true → IsOnly (Some line) (λ n. LineIs (lines_in t) n (LocksAnother v))
-other_lock t keeps v k name line at same some other =
-    let w = lock_line t keeps name line some in
+pub other_lock : (t : Table) → IsTable t → (v : Version) (k line : ℕ) → slice_get (versions_in t) k ≡ Some v → mark_of t.terms.names t.locks v.name ≡ Some line → is_other t line k ≡ true → IsOnly (Some line) (λ n. LineIs (lines_in t) n (LocksAnother v))
+other_lock t keeps v k line at some other =
+    let w = lock_line t keeps v.name line some in
     let j = lock_at t keeps line w.0 k w.1 in
     let differs : w.0.number ≢ v.number = λ numbers.
-    let one : w.0 ≡ v = same_version w.0 v (w.2 ∙ same) numbers in
+    let one : w.0 ≡ v = same_version w.0 v w.2 numbers in
     let places : j.0 ≡ k = one_number t (versions_in t) (lines_in t) keeps v j.0 k (j.1 ∙ ap (λ (x : Version). Some x) one) at in
     true_not (j.0 == k) ((Decides-eqb j.0 k).1 places) (sym j.2 ∙ other) in
-    λ n. (λ e. let is : line ≡ n = cc in subst (λ (m : ℕ). LineIs (lines_in t) m (LocksAnother v)) is (Lock w.0, w.1, (w.2 ∙ same, differs)), λ h. ap (λ (m : ℕ). Some m) (one_lock t keeps v name line same some n h))
+    λ n. (λ e. let is : line ≡ n = cc in subst (λ (m : ℕ). LineIs (lines_in t) m (LocksAnother v)) is (Lock w.0, w.1, (w.2, differs)), λ h. ap (λ (m : ℕ). Some m) (one_lock t keeps v line some n h))
   where
     true_not : (b : Bool) → b ≡ true → not b ≡ true → ⊥
     true_not true e f = cc
     true_not false e f = cc
 
-pub own_lock : (t : Table) → IsTable t → (v : Version) (k : ℕ) (name : List ℕ) (line : ℕ) → slice_get (versions_in t) k ≡ Some v → name ≡ v.name → get_by_text t.locks name ≡ Some line → is_other t line k ≡ false → IsOnly None (λ n. LineIs (lines_in t) n (LocksAnother v))
-own_lock t keeps v k name line at same some own =
-    let w = lock_line t keeps name line some in
+pub own_lock : (t : Table) → IsTable t → (v : Version) (k line : ℕ) → slice_get (versions_in t) k ≡ Some v → mark_of t.terms.names t.locks v.name ≡ Some line → is_other t line k ≡ false → IsOnly None (λ n. LineIs (lines_in t) n (LocksAnother v))
+own_lock t keeps v k line at some own =
+    let w = lock_line t keeps v.name line some in
     let j = lock_at t keeps line w.0 k w.1 in
     let places : j.0 ≡ k = (Decides-eqb j.0 k).0 (not_false (j.0 == k) (sym j.2 ∙ own)) in
     let one : Some w.0 ≡ Some v = sym j.1 ∙ ap (λ (m : ℕ). slice_get (versions_in t) m) places ∙ at in
     λ n. (
       λ e. absurd (none_is_some n e),
       λ h.
-          let here = one_lock t keeps v name line same some n h in
+          let here = one_lock t keeps v line some n h in
           absurd (never w.0 one w.1 (subst (λ (m : ℕ). LineIs (lines_in t) m (LocksAnother v)) (sym here) h)),
     )
   where

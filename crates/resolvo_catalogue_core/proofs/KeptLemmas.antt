@@ -158,12 +158,18 @@ kept_is t k kept v at listed =
     let version = kept_version t.terms.names in
     same_Some (version kept) v (sym (slice_get-map version t.versions.items k ∙ ap (λ (o : Option KeptVersion). option_map version o) at) ∙ listed)
 
+-- the name of its package is among those of the table
+pub package_called : (t : Table) → IsTable t → (k : ℕ) (kept : KeptVersion) → slice_get t.versions.items k ≡ Some kept → slice_get t.terms.names kept.«package».raw ≡ Some (name_at t.terms.names kept.«package».raw)
+package_called t keeps k kept at =
+    let names = t.terms.names in
+    slice_get-get_or names kept.«package».raw [] (in_range (length names) t.versions.items k kept keeps.named at)
+
 -- the package of a kept version is that of its name
 pub package_kept : (t : Table) → IsTable t → (k : ℕ) (kept : KeptVersion) → slice_get t.versions.items k ≡ Some kept → package_at t.packages.places.items kept.«package».raw ≡ package_named t (name_at t.terms.names kept.«package».raw)
 package_kept t keeps k kept at =
     let names = t.terms.names in
     let id = kept.«package».raw in
-    named_at names t.packages (name_at names id) id keeps.sound.names (slice_get-get_or names id [] (in_range (length names) t.versions.items k kept keeps.named at))
+    named_at names t.packages (name_at names id) id keeps.sound.names (package_called t keeps k kept at)
 
 pub package_places : (t : Table) → IsTable t → (n : ℕ) → numbers_in (package_at t.packages.places.items n) ≡ places_from (λ (v : KeptVersion). v.«package».raw == n) 0 t.versions.items
 package_places t keeps n = elim (cases_lt n (length names)) [

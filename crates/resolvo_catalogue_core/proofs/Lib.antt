@@ -5,6 +5,7 @@ pub mod OwnedLemmas
 pub mod PackedLemmas
 pub mod HeldLemmas
 pub mod VersionLemmas
+pub mod NameMarks
 pub mod NumberedLemmas
 pub mod PickedLemmas
 pub mod TableLemmas

@@ -9,7 +9,7 @@ use Rattle.resolvo_text.specs.Line.{Version, Line, Skipped, Listed, Needs, Limit
 use Rattle.resolvo_catalogue_core.specs.Grammar.{line_at, owner_of, owner_below, MayFollow}
 use Rattle.resolvo_catalogue_core.specs.Questions.{LineIs, MarksUnknownOf, Locks, Favours, MarksMany, Excludes, number_of, IsVersionLine}
 use Rattle.resolvo_catalogue_core.specs.Kept.{nowhere}
-use Rattle.resolvo_catalogue_core.specs.Table.{IsTable, lines_in, versions_in, package_named, number_in, kinds_in, numbers_in}
+use Rattle.resolvo_catalogue_core.specs.Table.{IsTable, lines_in, versions_in, package_named, number_in, kinds_in, numbers_in, mark_of}
 use Rattle.resolvo_catalogue_core.specs.declared.rule.VersionNo.{VersionNo}
 use Rattle.resolvo_catalogue_core.specs.declared.table.Table.{Table}
 use Rattle.resolvo_catalogue_core.proofs.TableLemmas.{listed_has, listed_from, owner_is_last, fewer_listed, kind_at, excluded_at}
@@ -71,19 +71,17 @@ unlisted_by_number t keeps v is has =
 
 -- ---- locks, favours, exclusions
 
-pub lock_placed : (t : Table) → IsTable t → (v : Version) (name : List ℕ) (k : ℕ) → name ≡ v.name → slice_get (versions_in t) k ≡ Some v → is_some (get_by_text t.locks name) ≡ false → MayFollow (lines_in t) (Lock v)
-lock_placed t keeps v name k same at absent =
-    let none : get_by_text t.locks v.name ≡ None = subst (λ (x : List ℕ). get_by_text t.locks x ≡ None) same (none_from (get_by_text t.locks name) absent) in (
+pub lock_placed : (t : Table) → IsTable t → (v : Version) (k : ℕ) → slice_get (versions_in t) k ≡ Some v → is_some (mark_of t.terms.names t.locks v.name) ≡ false → MayFollow (lines_in t) (Lock v)
+lock_placed t keeps v k at absent =
+    let none = none_from (mark_of t.terms.names t.locks v.name) absent in (
       found_listed t keeps v k at,
       λ n has.
           let h = line_from_contains (lines_in t) (Lock (record { name = v.name; number = n })) (Locks v.name) has (λ owner. refl) in
           none_is_some (sym none ∙ (keeps.locks v.name h.0).1 h.1),
     )
 
-pub locked_twice : (t : Table) → IsTable t → (v : Version) (name : List ℕ) → name ≡ v.name → is_some (get_by_text t.locks name) ≡ true → MayFollow (lines_in t) (Lock v) → ⊥
-locked_twice t keeps v name same present may =
-    let some = some_from (get_by_text t.locks name) present in
-    from_line some.0 ((keeps.locks v.name some.0).0 (ap (λ (x : List ℕ). get_by_text t.locks x) (sym same) ∙ some.1))
+pub locked_twice : (t : Table) → IsTable t → (v : Version) → is_some (mark_of t.terms.names t.locks v.name) ≡ true → MayFollow (lines_in t) (Lock v) → ⊥
+locked_twice t keeps v present may = let some = some_from (mark_of t.terms.names t.locks v.name) present in from_line some.0 ((keeps.locks v.name some.0).0 some.1)
   where
     from_line : (n : ℕ) → LineIs (lines_in t) n (Locks v.name) → ⊥
     from_line n (Lock w, at, is) = may.1 w.number (subst (λ (x : List ℕ). Contains (lines_in t) (Lock (record { name = x; number = w.number }))) is (contains_from_line (lines_in t) n (Lock w) at))
@@ -97,19 +95,17 @@ locked_twice t keeps v name same present may =
     from_line n (Exclude w r, at, is) = is
     from_line n (Wish w, at, is) = is
 
-pub favour_placed : (t : Table) → IsTable t → (v : Version) (name : List ℕ) (k : ℕ) → name ≡ v.name → slice_get (versions_in t) k ≡ Some v → is_some (get_by_text t.favoured name) ≡ false → MayFollow (lines_in t) (Favour v)
-favour_placed t keeps v name k same at absent =
-    let none : get_by_text t.favoured v.name ≡ None = subst (λ (x : List ℕ). get_by_text t.favoured x ≡ None) same (none_from (get_by_text t.favoured name) absent) in (
+pub favour_placed : (t : Table) → IsTable t → (v : Version) (k : ℕ) → slice_get (versions_in t) k ≡ Some v → is_some (mark_of t.terms.names t.favoured v.name) ≡ false → MayFollow (lines_in t) (Favour v)
+favour_placed t keeps v k at absent =
+    let none = none_from (mark_of t.terms.names t.favoured v.name) absent in (
       found_listed t keeps v k at,
       λ n has.
           let h = line_from_contains (lines_in t) (Favour (record { name = v.name; number = n })) (Favours v.name) has (λ owner. refl) in
           none_is_some (sym none ∙ (keeps.favoured v.name h.0).1 h.1),
     )
 
-pub favoured_twice : (t : Table) → IsTable t → (v : Version) (name : List ℕ) → name ≡ v.name → is_some (get_by_text t.favoured name) ≡ true → MayFollow (lines_in t) (Favour v) → ⊥
-favoured_twice t keeps v name same present may =
-    let some = some_from (get_by_text t.favoured name) present in
-    from_line some.0 ((keeps.favoured v.name some.0).0 (ap (λ (x : List ℕ). get_by_text t.favoured x) (sym same) ∙ some.1))
+pub favoured_twice : (t : Table) → IsTable t → (v : Version) → is_some (mark_of t.terms.names t.favoured v.name) ≡ true → MayFollow (lines_in t) (Favour v) → ⊥
+favoured_twice t keeps v present may = let some = some_from (mark_of t.terms.names t.favoured v.name) present in from_line some.0 ((keeps.favoured v.name some.0).0 some.1)
   where
     from_line : (n : ℕ) → LineIs (lines_in t) n (Favours v.name) → ⊥
     from_line n (Favour w, at, is) = may.1 w.number (subst (λ (x : List ℕ). Contains (lines_in t) (Favour (record { name = x; number = w.number }))) is (contains_from_line (lines_in t) n (Favour w) at))

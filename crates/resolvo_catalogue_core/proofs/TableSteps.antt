@@ -3,7 +3,7 @@ use Rattle.std.proofs.Common.{◌≡◌, ◌==◌, if◌then◌else◌, inl, inr
 use Rattle.std.specs.Prelude.{◌≤◌, Contains, slice_get, string_bytes, nat_eq, Result, Ok, Err, OnOk}
 use Rattle.resolvo_catalogue_core.specs.declared.package.Package.{Package}
 use Rattle.resolvo_catalogue_core.specs.Packages.{package_in}
-use Rattle.resolvo_catalogue_core.specs.Table.{AddsVersion, IsPackage, package_named, numbers_in, line_of, Keeps, IsTable, Adds, lines_in, versions_in, kinds_in, number_in}
+use Rattle.resolvo_catalogue_core.specs.Table.{AddsVersion, IsPackage, package_named, numbers_in, line_of, Keeps, IsTable, Adds, lines_in, versions_in, kinds_in, number_in, mark_of}
 use Rattle.resolvo_catalogue_core.specs.Questions.{IsOfPackage, number_of, IsOnly, AreAll, LineIs, BelongsTo, MarksUnknownOf, Locks, Favours, MarksMany, Excludes, IsFavour, IsVersionLine, FavoursAt}
 use Rattle.std.specs.BTreeMap.{get, get_by_text}
 use Rattle.std.specs.Ordering.{nat_cmp}
@@ -41,6 +41,7 @@ use Rattle.resolvo_terms.proofs.NameLemmas.{few_more}
 use Rattle.resolvo_terms.proofs.Places.{get_new, get_kept, get_push}
 use Rattle.resolvo_catalogue_core.proofs.PackageLemmas.{more_names, none_in}
 use Rattle.resolvo_catalogue_core.proofs.VersionLemmas.{same_versions, still_kept}
+use Rattle.resolvo_catalogue_core.proofs.NameMarks.{no_entry, no_mark, no_marks, marks_stay, more_marks, marks_more, mark_updated}
 use Rattle.resolvo_catalogue_core.proofs.Pushed.{Grows, only_other, all_other, all_new, keyed_new, keyed_more, line_grows, line_within, version_line_grows, version_line_within, version_line_of_listed, get_grows}
 use Rattle.resolvo_catalogue_core.proofs.PlaceLemmas.{none_from, excluded_listed, no_number}
 use Rattle.resolvo_catalogue_core.proofs.TableLemmas.{lines_stay, are_kinds_stay, listed_same, listed_more, are_kinds_push, are_kinds_more, lines_of_more, favours_kept, favours_more, owner_listed, belongs_owner, marks_owner}
@@ -65,15 +66,17 @@ more_terms t u keeps grows sound =
     let named : versions_in w ≡ vs = same_versions t.terms.names u.names t.versions.items grows.names keeps.named in
     let stay : map (line_of u vs) (kinds_in t) ≡ lines_in t = lines_stay t.terms u grows sound vs (kinds_in t) (λ n s at. (owner_below (take n (lines_in t)), keeps.kinds n s at)) in
     let same : lines_in w ≡ lines_in t = ap (λ (x : List Version). map (line_of u x) (kinds_in t)) named ∙ stay in
+    let few_names = few_more t.terms.names u.names (length t.terms.names) grows.names (omega arith) in
     let keeps_new : Keeps w vs (lines_in t) = record {
       listing = keeps.listing;
       sound = sound;
       kinds = are_kinds_stay t.terms u grows sound vs (lines_in t) (kinds_in t) keeps.kinds;
       packages = λ name. subst (λ (o : Option Package). IsPackage vs name o) (sym (more_names t.terms.names u.names t.packages name grows.names sound.names keeps.places)) (keeps.packages name);
       places = few_more t.terms.names u.names (length t.packages.places.items) grows.names keeps.places;
-      named = still_kept (length t.terms.names) (length u.names) t.versions.items (few_more t.terms.names u.names (length t.terms.names) grows.names (omega arith)) keeps.named;
-      locks = keeps.locks;
-      favoured = keeps.favoured;
+      named = still_kept (length t.terms.names) (length u.names) t.versions.items few_names keeps.named;
+      marks = (marks_stay t.terms.names u.names t.locks few_names keeps.marks.0, marks_stay t.terms.names u.names t.favoured few_names keeps.marks.1);
+      locks = λ name. subst (λ (o : Option ℕ). IsOnly o (λ n. LineIs (lines_in t) n (Locks name))) (sym (more_marks t.terms.names u.names t.locks name grows.names sound.names keeps.marks.0)) (keeps.locks name);
+      favoured = λ name. subst (λ (o : Option ℕ). IsOnly o (λ n. LineIs (lines_in t) n (Favours name))) (sym (more_marks t.terms.names u.names t.favoured name grows.names sound.names keeps.marks.1)) (keeps.favoured name);
       many = keeps.many;
       excluded = keeps.excluded;
       unknown = keeps.unknown;
@@ -124,6 +127,7 @@ skip t u keeps more =
       packages = keeps.packages;
       places = keeps.places;
       named = keeps.named;
+      marks = keeps.marks;
       locks = λ name. only_other (keeps.locks name) (line_grows lines Skipped (Locks name)) (λ x. x);
       favoured = λ name. only_other (keeps.favoured name) (line_grows lines Skipped (Favours name)) (λ x. x);
       many = λ name. only_other (keeps.many name) (line_grows lines Skipped (MarksMany name)) (λ x. x);
@@ -137,10 +141,10 @@ skip t u keeps more =
 
 -- ---- a lock
 
-pub lock : (t u : Table) (line : ℕ) (k : VersionNo) (v : Version) (name : List ℕ) → IsTable t → line ≡ length (lines_in t) + 1 → slice_get (versions_in t) k.0 ≡ Some v → name ≡ v.name → is_some (get_by_text t.locks name) ≡ false
-    → kinds_in u ≡ kinds_in t ++ line_kinds.Rule (kept.Lock k) ∷ [] → ((name : List ℕ) → get_by_text u.locks name ≡ update bytes_eq (get_by_text t.locks) v.name (Some line) name) → Adds t (Lock v) (record t { line_kinds = u.line_kinds; locks = u.locks })
-lock t u line k v name keeps number at same absent more locked =
-    let none : get_by_text t.locks v.name ≡ None = subst (λ (x : List ℕ). get_by_text t.locks x ≡ None) same (none_from (get_by_text t.locks name) absent) in
+pub lock : (t u : Table) (line : ℕ) (k : VersionNo) (v : Version) (name : ℕ) → IsTable t → line ≡ length (lines_in t) + 1 → slice_get (versions_in t) k.0 ≡ Some v → slice_get t.terms.names name ≡ Some v.name → is_some (mark_of t.terms.names t.locks v.name) ≡ false
+    → kinds_in u ≡ kinds_in t ++ line_kinds.Rule (kept.Lock k) ∷ [] → ((j : ℕ) → get nat_cmp u.locks j ≡ update nat_eq (get nat_cmp t.locks) name (Some line) j) → Adds t (Lock v) (record t { line_kinds = u.line_kinds; locks = u.locks })
+lock t u line k v name keeps number at called absent more locked =
+    let names = t.terms.names in
     let vs = versions_in t in
     let lines = lines_in t in
     let l = Lock v in
@@ -151,8 +155,9 @@ lock t u line k v name keeps number at same absent more locked =
       packages = keeps.packages;
       places = keeps.places;
       named = keeps.named;
-      locks = keyed_new bytes_eq bytes_eq-Decides (get_by_text t.locks) (get_by_text u.locks) v.name line (λ name n. LineIs lines n (Locks name)) (λ name n. LineIs (lines ++ l ∷ []) n (Locks name)) (λ name. v.name ≡ name)
-          locked none keeps.locks (λ name. rw number (line_grows lines l (Locks name))) refl (λ name same. same);
+      marks = (marks_more names t.locks u.locks name line locked keeps.marks.0 (slice_get_within names name v.name called), keeps.marks.1);
+      locks = keyed_new bytes_eq bytes_eq-Decides (mark_of names t.locks) (mark_of names u.locks) v.name line (λ name n. LineIs lines n (Locks name)) (λ name n. LineIs (lines ++ l ∷ []) n (Locks name)) (λ name. v.name ≡ name)
+          (mark_updated names t.locks u.locks name line locked v.name keeps.sound.names called) (none_from (mark_of names t.locks v.name) absent) keeps.locks (λ name. rw number (line_grows lines l (Locks name))) refl (λ name same. same);
       favoured = λ name. only_other (keeps.favoured name) (line_grows lines l (Favours name)) (λ x. x);
       many = λ name. only_other (keeps.many name) (line_grows lines l (MarksMany name)) (λ x. x);
       excluded = λ j. only_other (keeps.excluded j) (version_line_grows vs lines l j Excludes) (λ x. x.2);
@@ -180,6 +185,7 @@ mark_many t u line name keeps number absent more marked =
       packages = keeps.packages;
       places = keeps.places;
       named = keeps.named;
+      marks = keeps.marks;
       locks = λ nm. only_other (keeps.locks nm) (line_grows lines l (Locks nm)) (λ x. x);
       favoured = λ nm. only_other (keeps.favoured nm) (line_grows lines l (Favours nm)) (λ x. x);
       many = keyed_new bytes_eq bytes_eq-Decides (get_by_text t.many) (get_by_text u.many) (string_bytes name) line (λ nm n. LineIs lines n (MarksMany nm)) (λ nm n. LineIs (lines ++ l ∷ []) n (MarksMany nm)) (λ nm. string_bytes name ≡ nm)
@@ -214,6 +220,7 @@ need t u line k v given written keeps is stands number at owner more recorded as
       packages = keeps.packages;
       places = keeps.places;
       named = keeps.named;
+      marks = keeps.marks;
       locks = λ name. only_other (keeps.locks name) (line_grows lines l (Locks name)) (λ x. x);
       favoured = λ name. only_other (keeps.favoured name) (line_grows lines l (Favours name)) (λ x. x);
       many = λ name. only_other (keeps.many name) (line_grows lines l (MarksMany name)) (λ x. x);
@@ -240,6 +247,7 @@ limit t u line k v number_of_spec s keeps is given number at owner more recorded
       packages = keeps.packages;
       places = keeps.places;
       named = keeps.named;
+      marks = keeps.marks;
       locks = λ name. only_other (keeps.locks name) (line_grows lines l (Locks name)) (λ x. x);
       favoured = λ name. only_other (keeps.favoured name) (line_grows lines l (Favours name)) (λ x. x);
       many = λ name. only_other (keeps.many name) (line_grows lines l (MarksMany name)) (λ x. x);
@@ -268,6 +276,7 @@ mark_unknown t u line k v w word keeps is given number at owner absent more reco
       packages = keeps.packages;
       places = keeps.places;
       named = keeps.named;
+      marks = keeps.marks;
       locks = λ name. only_other (keeps.locks name) (line_grows lines l (Locks name)) (λ x. x);
       favoured = λ name. only_other (keeps.favoured name) (line_grows lines l (Favours name)) (λ x. x);
       many = λ name. only_other (keeps.many name) (line_grows lines l (MarksMany name)) (λ x. x);
@@ -296,6 +305,7 @@ exclude t u line k v w word keeps is given number at absent more marked =
       packages = keeps.packages;
       places = keeps.places;
       named = keeps.named;
+      marks = keeps.marks;
       locks = λ name. only_other (keeps.locks name) (line_grows lines l (Locks name)) (λ x. x);
       favoured = λ name. only_other (keeps.favoured name) (line_grows lines l (Favours name)) (λ x. x);
       many = λ name. only_other (keeps.many name) (line_grows lines l (MarksMany name)) (λ x. x);
@@ -308,11 +318,11 @@ exclude t u line k v w word keeps is given number at absent more marked =
       favour_versions = λ i f at. favours_kept vs lines l f (keeps.favour_versions i f at);
     })
 
-pub favour : (t u : Table) (line : ℕ) (k : VersionNo) (v : Version) (name : List ℕ) → IsTable t → line ≡ length (lines_in t) + 1 → slice_get (versions_in t) k.0 ≡ Some v → name ≡ v.name → is_some (get_by_text t.favoured name) ≡ false
-    → kinds_in u ≡ kinds_in t ++ line_kinds.Favour k ∷ [] → ((name : List ℕ) → get_by_text u.favoured name ≡ update bytes_eq (get_by_text t.favoured) v.name (Some line) name) → u.favours.items ≡ t.favours.items ++ (line, k) ∷ []
+pub favour : (t u : Table) (line : ℕ) (k : VersionNo) (v : Version) (name : ℕ) → IsTable t → line ≡ length (lines_in t) + 1 → slice_get (versions_in t) k.0 ≡ Some v → slice_get t.terms.names name ≡ Some v.name → is_some (mark_of t.terms.names t.favoured v.name) ≡ false
+    → kinds_in u ≡ kinds_in t ++ line_kinds.Favour k ∷ [] → ((j : ℕ) → get nat_cmp u.favoured j ≡ update nat_eq (get nat_cmp t.favoured) name (Some line) j) → u.favours.items ≡ t.favours.items ++ (line, k) ∷ []
     → Adds t (Favour v) (record t { line_kinds = u.line_kinds; favoured = u.favoured; favours = u.favours })
-favour t u line k v name keeps number at same absent more favoured pushed =
-    let none : get_by_text t.favoured v.name ≡ None = subst (λ (x : List ℕ). get_by_text t.favoured x ≡ None) same (none_from (get_by_text t.favoured name) absent) in
+favour t u line k v name keeps number at called absent more favoured pushed =
+    let names = t.terms.names in
     let vs = versions_in t in
     let lines = lines_in t in
     let l : Line = Favour v in
@@ -324,9 +334,10 @@ favour t u line k v name keeps number at same absent more favoured pushed =
       packages = keeps.packages;
       places = keeps.places;
       named = keeps.named;
+      marks = (keeps.marks.0, marks_more names t.favoured u.favoured name line favoured keeps.marks.1 (slice_get_within names name v.name called));
       locks = λ name. only_other (keeps.locks name) (line_grows lines l (Locks name)) (λ x. x);
-      favoured = keyed_new bytes_eq bytes_eq-Decides (get_by_text t.favoured) (get_by_text u.favoured) v.name line (λ name n. LineIs lines n (Favours name)) (λ name n. LineIs (lines ++ l ∷ []) n (Favours name)) (λ name. v.name ≡ name)
-          favoured none keeps.favoured (λ name. rw number (line_grows lines l (Favours name))) refl (λ name same. same);
+      favoured = keyed_new bytes_eq bytes_eq-Decides (mark_of names t.favoured) (mark_of names u.favoured) v.name line (λ name n. LineIs lines n (Favours name)) (λ name n. LineIs (lines ++ l ∷ []) n (Favours name)) (λ name. v.name ≡ name)
+          (mark_updated names t.favoured u.favoured name line favoured v.name keeps.sound.names called) (none_from (mark_of names t.favoured v.name) absent) keeps.favoured (λ name. rw number (line_grows lines l (Favours name))) refl (λ name same. same);
       many = λ name. only_other (keeps.many name) (line_grows lines l (MarksMany name)) (λ x. x);
       excluded = λ j. only_other (keeps.excluded j) (version_line_grows vs lines l j Excludes) (λ x. x.2);
       unknown = λ j. only_other (keeps.unknown j) (version_line_grows vs lines l j MarksUnknownOf) (λ x. x.2);
@@ -443,6 +454,7 @@ list t u k v keeps number unlisted adds places versions named more kept as_many 
       };
       places = places;
       named = named;
+      marks = keeps.marks;
       locks = λ name. only_other (keeps.locks name) (line_grows lines l (Locks name)) (λ x. x);
       favoured = λ name. only_other (keeps.favoured name) (line_grows lines l (Favours name)) (λ x. x);
       many = λ name. only_other (keeps.many name) (line_grows lines l (MarksMany name)) (λ x. x);
@@ -493,8 +505,9 @@ empty t sound versions kinds places locks favoured many excluded unknown owned f
       packages = λ name. record { kept = λ p is. no_package (package_named t name) p (packages name) is; numbers = λ k. no_only _ _ (ap (λ (o : Option Package). number_in o k) (packages name)) (λ n at. none_got n (record { name = name; number = k }) at); all = subst (λ (o : Option Package). AreAll (numbers_in o) (IsOfPackage [] name)) (sym (packages name)) (no_all (IsOfPackage [] name) (λ n h. none_got n h.0 h.1)) };
       places = omega (arith, ap (λ (ps : List Package). length ps) places);
       named = rw versions refl;
-      locks = λ name. no_only _ _ (rw locks refl) (no_line (Locks name));
-      favoured = λ name. no_only _ _ (rw favoured refl) (no_line (Favours name));
+      marks = (no_marks t.terms.names t.locks (no_entry t.locks locks), no_marks t.terms.names t.favoured (no_entry t.favoured favoured));
+      locks = λ name. no_only _ _ (no_mark t.terms.names t.locks name (no_entry t.locks locks)) (no_line (Locks name));
+      favoured = λ name. no_only _ _ (no_mark t.terms.names t.favoured name (no_entry t.favoured favoured)) (no_line (Favours name));
       many = λ name. no_only _ _ (rw many refl) (no_line (MarksMany name));
       excluded = λ k. no_only _ _ (rw excluded refl) (λ n h. none_got k h.0 h.1);
       unknown = λ k. no_only _ _ (rw unknown refl) (λ n h. none_got k h.0 h.1);

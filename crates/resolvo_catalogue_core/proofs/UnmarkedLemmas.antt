@@ -1,10 +1,11 @@
 -- Whether a line locks or excludes a version: by whether the maps are empty.
-use Rattle.std.proofs.Common.{◌≡◌, ℕ, suc, Bool, true, false, List, [], ◌∷◌, length, Option, Some, None, refl, sym, ap, arith}
+use Rattle.std.proofs.Common.{◌≡◌, ℕ, suc, Bool, true, false, List, [], ◌∷◌, ◌∙◌, length, get_or, Option, Some, None, refl, sym, ap, arith}
 use Rattle.std.specs.Prelude.{Contains, String, not, slice_get}
 use Rattle.std.proofs.lemmas.Bool.{false≢true}
 use Rattle.std.specs.Map.{lookup}
 use Rattle.std.proofs.lemmas.Cmp.{nat_cmp_total, nat_list_cmp_total, tied_itself}
 use Rattle.std.proofs.lemmas.Map.Entries.{lookup_head}
+use Rattle.std.proofs.lemmas.Option.{slice_get-get_or}
 use Rattle.std.specs.BTreeMap.{BTreeMap, btree_map_len, get, get_by_text, is_at}
 use Rattle.std.specs.Cmp.Lexicographic.{slice_cmp}
 use Rattle.std.specs.Ordering.{nat_cmp, is_eq}
@@ -13,9 +14,10 @@ use Rattle.resolvo_text.specs.Line.{Version, Line, Lock, Exclude}
 use Rattle.resolvo_terms.proofs.Places.{at_from_contains}
 use Rattle.resolvo_catalogue_core.specs.Listed.{listed}
 use Rattle.resolvo_catalogue_core.specs.Questions.{LineIs, Locks, Excludes}
-use Rattle.resolvo_catalogue_core.specs.Table.{IsTable, lines_in}
+use Rattle.resolvo_catalogue_core.specs.Table.{IsTable, lines_in, mark_of}
 use Rattle.resolvo_catalogue_core.specs.declared.table.Table.{Table}
 use Rattle.resolvo_catalogue_core.proofs.CatalogueFacts.{kept}
+use Rattle.resolvo_catalogue_core.proofs.NameMarks.{marked_at, no_mark}
 
 pub denied : (b : Bool) → not b ≡ false → b ≡ true
 denied true e = refl
@@ -53,7 +55,7 @@ module _ (t : Table) (lines : List Line) (is : lines_in t ≡ lines) (keeps : Is
   pub no_locks : btree_map_len t.locks ≡ 0 → (v : Version) → Contains lines (Lock v) → ⊥
   no_locks none v has =
       let at = at_from_contains lines (Lock v) has in
-      none_is_some (get_by_text t.locks v.name) (suc at.0) (nothing_at _ t.locks.entries none) (((kept t lines is keeps).locks v.name (suc at.0)).1 (Lock v, at.1, refl))
+      none_is_some (mark_of t.terms.names t.locks v.name) (suc at.0) (no_mark t.terms.names t.locks v.name (λ n. nothing_at (is_at (nat_cmp n)) t.locks.entries none)) (((kept t lines is keeps).locks v.name (suc at.0)).1 (Lock v, at.1, refl))
 
   pub no_exclusions : btree_map_len t.excluded ≡ 0 → (k : ℕ) (v : Version) (word : List ℕ) → slice_get (listed lines) k ≡ Some v → Contains lines (Exclude v word) → ⊥
   no_exclusions none k v word there has =
@@ -62,8 +64,11 @@ module _ (t : Table) (lines : List Line) (is : lines_in t ≡ lines) (keeps : Is
 
   pub some_lock : (btree_map_len t.locks ≡ 0 → ⊥) → (name : List ℕ) × (n : ℕ) × LineIs lines n (Locks name)
   some_lock some =
-      let x = some_text t.locks some in
-      (x.0, x.1, ((kept t lines is keeps).locks x.0 x.1).0 x.2)
+      let names = t.terms.names in
+      let x = some_number t.locks some in
+      let name = get_or names x.0 [] in
+      let called = slice_get-get_or names x.0 [] (keeps.marks.0 x.0 x.1 x.2) in
+      (name, x.1, ((kept t lines is keeps).locks name x.1).0 (marked_at names t.locks name x.0 keeps.sound.names called ∙ x.2))
 
   pub some_exclusion : (btree_map_len t.excluded ≡ 0 → ⊥) → (v : Version) × (n : ℕ) × LineIs lines n (Excludes v)
   some_exclusion some =

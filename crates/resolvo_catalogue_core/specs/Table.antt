@@ -1,10 +1,11 @@
 -- A catalogue's lines as the code keeps them, and the invariants of its maps.
-use Rattle.std.specs.Prelude.{◌≡◌, ℕ, ◌≤◌, ◌+◌, sum_by, ◌<◌, ◌==◌, if◌then◌else◌, bytes_eq, false, true, ⊤, List, [], ◌++◌, ◌∷◌, map, length, take, Option, Some, None, slice_get, string_bytes, option_map}
-use Rattle.std.specs.BTreeMap.{get, get_by_text}
+use Rattle.std.specs.Prelude.{◌≡◌, ℕ, ◌≤◌, ◌+◌, sum_by, ◌<◌, ◌==◌, if◌then◌else◌, bytes_eq, false, true, ⊤, List, [], ◌++◌, ◌∷◌, map, length, take, Option, Some, None, slice_get, string_bytes, option_map, option_and_then}
+use Rattle.std.specs.BTreeMap.{BTreeMap, get, get_by_text}
 use Rattle.std.specs.Ordering.{nat_cmp}
 use Rattle.resolvo_text.specs.Line as parsed
 use Rattle.resolvo_text.specs.Line.{Version, Line}
 use Rattle.resolvo_terms.specs.Terms.{Terms, AreSound}
+use Rattle.resolvo_terms.specs.Known.{place_of}
 use Rattle.resolvo_terms.specs.TermCounts.{term_count, terms_for_line}
 use Rattle.resolvo_catalogue_core.specs.Grammar.{owner_below, MayFollow, IsCatalogueLine}
 use Rattle.resolvo_catalogue_core.specs.Listed.{listed, kept_versions, are_kept}
@@ -58,6 +59,14 @@ AreKindsOf terms versions lines kinds = (n : ℕ) (s : LineKind) → slice_get k
 abbrev pub package_named : Table → List ℕ → Option Package
 package_named t name = package_in t.terms.names t.packages name
 
+-- the line of a package's mark, by the number of its name among these
+abbrev pub mark_of : List (List ℕ) → BTreeMap ℕ ℕ → List ℕ → Option ℕ
+mark_of names marks name = option_and_then (λ n. get nat_cmp marks n) (place_of names name)
+
+-- The marks are of packages that have one of these names.
+abbrev pub AreMarksOf : List (List ℕ) → BTreeMap ℕ ℕ → Type 0
+AreMarksOf names marks = (n line : ℕ) → get nat_cmp marks n ≡ Some line → n < length names
+
 -- the number of the package's version
 abbrev pub number_in : Option Package → ℕ → Option ℕ
 number_in None k = None
@@ -102,8 +111,9 @@ pub record Keeps (t : Table) (versions : List Version) (lines : List Line) : Typ
   pub packages : (name : List ℕ) → IsPackage versions name (package_named t name)
   pub places : length t.packages.places.items ≤ length t.terms.names
   pub named : are_kept (length t.terms.names) t.versions.items ≡ true
-  pub locks : (name : List ℕ) → IsOnly (get_by_text t.locks name) (λ n. LineIs lines n (Locks name))
-  pub favoured : (name : List ℕ) → IsOnly (get_by_text t.favoured name) (λ n. LineIs lines n (Favours name))
+  pub marks : AreMarksOf t.terms.names t.locks × AreMarksOf t.terms.names t.favoured
+  pub locks : (name : List ℕ) → IsOnly (mark_of t.terms.names t.locks name) (λ n. LineIs lines n (Locks name))
+  pub favoured : (name : List ℕ) → IsOnly (mark_of t.terms.names t.favoured name) (λ n. LineIs lines n (Favours name))
   pub many : (name : List ℕ) → IsOnly (get_by_text t.many name) (λ n. LineIs lines n (MarksMany name))
   pub excluded : (k : ℕ) → IsOnly (get nat_cmp t.excluded k) (IsVersionLine versions lines k Excludes)
   pub unknown : (k : ℕ) → IsOnly (get nat_cmp t.unknown k) (IsVersionLine versions lines k MarksUnknownOf)

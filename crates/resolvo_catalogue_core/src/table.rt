@@ -45,10 +45,10 @@ pub struct Table {
     pub versions: Vec<KeptVersion>,
     pub line_kinds: LineTable,
     pub packages: PackageTable,
-    /// The line that locks a version of the package.
-    pub locks: BTreeMap<String, u32>,
-    /// The line that favours a version of the package.
-    pub favoured: BTreeMap<String, u32>,
+    /// The line that locks a version of the package, by the number of its name.
+    pub locks: BTreeMap<u32, u32>,
+    /// The line that favours a version of the package, by the number of its name.
+    pub favoured: BTreeMap<u32, u32>,
     /// The line that marks the package `many`.
     pub many: BTreeMap<String, u32>,
     /// The line that excludes the version.
@@ -195,10 +195,21 @@ impl Table {
         self.line_kinds.rule(line)
     }
 
-    fn lock_of(&self, name: &str) -> Option<u32>
-        ensures { result ≡ get_by_text self.now.locks name.now }
+    /// The number of the name of a listed version's package.
+    fn package_of(&self, version: VersionNo) -> NameId
+        requires table { IsTable self.now }
+        requires listed { version.0 < length (versions_in self.now) }
+        ensures { (v : parsed.Version)
+            → slice_get (versions_in self.now) version.0 ≡ Some v
+            → slice_get self.now.terms.names result.raw ≡ Some v.name }
     {
-        self.locks.get(name).copied()
+        self.versions[version.0 as usize].package
+    }
+
+    fn lock_of(&self, name: NameId) -> Option<u32>
+        ensures { result ≡ get nat_cmp self.now.locks name.raw }
+    {
+        self.locks.get(&name.into_raw()).copied()
     }
 
     fn excluded_by(&self, version: VersionNo) -> Option<u32>
@@ -220,11 +231,11 @@ impl Table {
     }
 
     /// The line that locks another version of the package.
-    fn other_lock(&self, name: &str, version: VersionNo) -> Option<u32>
+    fn other_lock(&self, name: NameId, version: VersionNo) -> Option<u32>
         requires { IsTable self.now }
         ensures { (v : parsed.Version)
             → slice_get (versions_in self.now) version.0 ≡ Some v
-            → name.now ≡ v.name
+            → slice_get self.now.terms.names name.raw ≡ Some v.name
             → IsOnly result (λ n. LineIs (lines_in self.now) n (LocksAnother v)) }
     {
         match self.lock_of(name) {
@@ -239,11 +250,11 @@ impl Table {
         }
     }
 
-    fn forbidden_as(&self, name: &str, version: VersionNo) -> Option<u32>
+    fn forbidden_as(&self, name: NameId, version: VersionNo) -> Option<u32>
         requires { IsTable self.now }
         ensures { (v : parsed.Version)
             → slice_get (versions_in self.now) version.0 ≡ Some v
-            → name.now ≡ v.name
+            → slice_get self.now.terms.names name.raw ≡ Some v.name
             → IsOnly result (λ n. Forbids (lines_in self.now) v n) }
     {
         match self.other_lock(name, version) {
@@ -261,8 +272,8 @@ impl Table {
             × (slice_get (versions_in self.now) version.0 ≡ Some v)
             × Forbids (lines_in self.now) v n) }
     {
-        match self.versions().get(version) {
-            Some(found) => self.forbidden_as(found.0, version),
+        match self.kept_at(version) {
+            Some(kept) => self.forbidden_as(kept.package, version),
             None => None,
         }
     }
@@ -281,16 +292,16 @@ impl Table {
         }
     }
 
-    fn is_locked(&self, name: &str) -> bool
-        ensures { result ≡ is_some (get_by_text self.now.locks name.now) }
+    fn is_locked(&self, name: NameId) -> bool
+        ensures { result ≡ is_some (get nat_cmp self.now.locks name.raw) }
     {
-        self.locks.contains_key(name)
+        self.locks.contains_key(&name.into_raw())
     }
 
-    fn is_favoured(&self, name: &str) -> bool
-        ensures { result ≡ is_some (get_by_text self.now.favoured name.now) }
+    fn is_favoured(&self, name: NameId) -> bool
+        ensures { result ≡ is_some (get nat_cmp self.now.favoured name.raw) }
     {
-        self.favoured.contains_key(name)
+        self.favoured.contains_key(&name.into_raw())
     }
 
     /// Whether versions of the package may be side by side.
@@ -568,10 +579,11 @@ impl Table {
             → ⊥ }
     {
         let favoured = self.listed(&version)?;
-        if self.is_favoured(&version.name) {
+        let name = self.package_of(favoured);
+        if self.is_favoured(name) {
             return Err(LineFault::Fault);
         }
-        self.favoured.insert(version.name, line)?;
+        self.favoured.insert(name.into_raw(), line)?;
         self.favours.push((line, favoured))?;
         self.line_kinds.hold(StoredLine::Favour(favoured))?;
         Ok(())
@@ -588,10 +600,11 @@ impl Table {
             → ⊥ }
     {
         let locked = self.listed(&version)?;
-        if self.is_locked(&version.name) {
+        let name = self.package_of(locked);
+        if self.is_locked(name) {
             return Err(LineFault::Fault);
         }
-        self.locks.insert(version.name, line)?;
+        self.locks.insert(name.into_raw(), line)?;
         self.line_kinds
             .push_long(KeptRule::Lock { version: locked })?;
         Ok(())
