@@ -10,7 +10,7 @@ mod lines_by_version;
 mod obey;
 mod package;
 mod package_table;
-mod picked;
+mod pick;
 mod request;
 mod request_lines;
 mod rule;

@@ -11,7 +11,7 @@ ghost use Rattle.resolvo_catalogue_core.specs.Numbered.{beside, numbers_of, pres
 ghost use Rattle.resolvo_catalogue_core.specs.Picked.{IsAmong, AddsEach, HasEach, is_picked};
 ghost use Rattle.resolvo_catalogue_core.specs.Table.{AddsNumber};
 
-use crate::picked::add_rising;
+use crate::pick::add_rising;
 use crate::rule::VersionNo;
 use crate::version_list::VersionList;
 use resolvo_text::Span;

@@ -12,7 +12,7 @@ ghost use Rattle.std.specs.Range.Bound.{IsForward};
 ghost use Rattle.resolvo_catalogue_core.specs.Picked.{IsAmong, AddsEach};
 ghost use Rattle.resolvo_catalogue_core.specs.Table.{AddsBeside};
 
-use crate::picked::{add_mapped, add_rising};
+use crate::pick::{add_mapped, add_rising};
 use crate::rule::VersionNo;
 use std::alloc::{AllocError, Global};
 use std::collections::{BTreeMap, BTreeSet};

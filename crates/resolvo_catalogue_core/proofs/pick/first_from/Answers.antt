@@ -3,7 +3,7 @@ use Rattle.std.specs.BTreeMap.Range.{is_from_start}
 use Rattle.std.specs.Ordering.{nat_cmp}
 use Rattle.std.proofs.lemmas.List.Sorted.{IsPartitionPoint-from_clause}
 use Rattle.resolvo_catalogue_core.proofs.PickedLemmas.{from_parted, by_point}
-use Rattle.resolvo_catalogue_core.proofs.picked.first_from.Goals as goal
+use Rattle.resolvo_catalogue_core.proofs.pick.first_from.Goals as goal
 
 pub returns-clause-first : goal.returns-clause-first
 returns-clause-first c =

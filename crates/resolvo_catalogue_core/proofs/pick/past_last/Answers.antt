@@ -3,7 +3,7 @@ use Rattle.std.specs.BTreeMap.Range.{is_past_end}
 use Rattle.std.specs.Ordering.{nat_cmp}
 use Rattle.std.proofs.lemmas.List.Sorted.{IsPartitionPoint-from_clause}
 use Rattle.resolvo_catalogue_core.proofs.PickedLemmas.{past_parted, by_point}
-use Rattle.resolvo_catalogue_core.proofs.picked.past_last.Goals as goal
+use Rattle.resolvo_catalogue_core.proofs.pick.past_last.Goals as goal
 
 pub returns-clause-last : goal.returns-clause-last
 returns-clause-last c =

@@ -1,5 +1,5 @@
 use Rattle.resolvo_catalogue_core.proofs.PickedLemmas.{places_among, none_among}
-use Rattle.resolvo_catalogue_core.proofs.picked.add_rising.Goals as goal
+use Rattle.resolvo_catalogue_core.proofs.pick.add_rising.Goals as goal
 
 pub returns-in_ok-add_places : goal.returns-in_ok-add_places
 returns-in_ok-add_places c =

@@ -1,7 +1,7 @@
 use Rattle.std.proofs.Common.{ℕ, subst, arith}
 use Rattle.resolvo_catalogue_core.specs.Picked.{IsPlaced, AddsEach}
 use Rattle.resolvo_catalogue_core.proofs.PickedLemmas.{place_more, no_place}
-use Rattle.resolvo_catalogue_core.proofs.picked.add_places.Goals as goal
+use Rattle.resolvo_catalogue_core.proofs.pick.add_places.Goals as goal
 
 pub loop-place-init : goal.loop-place-init
 loop-place-init c = (omega arith, c.requires.order, no_place c.args.versions.now c.args.first c.args.out.now)
