@@ -3,10 +3,11 @@
 
 docs.py                      lists what is wrong: a module or a public call that the README of its room lacks, an item of its door
                              too; a crate that `crates.txt` lists for another that does not name it, or the reverse; a file with
-                             a lock that CHANGING.md lacks; a name, file or crate that is missing, a dead link, a count of AUDIT.md
-                             or of the rows, in CLAIMS.md or in what their program prints; the example of README.md; a command of
-                             `resolve-tools` that it doesn't take, or whose output is another one; a script that can't be executed;
-                             a report of examples/ or README.md that isn't that of the plain search. Status 1 where anything is.
+                             a lock that CHANGING.md lacks; a call that WALK.md has behind another file; a name, file or crate that
+                             is missing, a dead link, a count of AUDIT.md or of the rows, in CLAIMS.md or in what their program
+                             prints; the example of README.md; a command of `resolve-tools` that it doesn't take, or whose output
+                             is another one; a script that can't be executed; a report of examples/ or README.md that isn't that
+                             of the plain search. Status 1 where anything is.
 docs.py --closure CRATE/SPEC ..  lists the files of specs/ that these import, all the way down, with their lines.
 """
 import argparse
@@ -258,6 +259,23 @@ def count_faults() -> Iterator[str]:
             yield f"docs/AUDIT.md: {words} have {count} lines"
 
 
+def walk_faults() -> Iterator[str]:
+    """In WALK.md a crate, a file of it and calls follow each other: the file must have the calls."""
+    for number, line in enumerate(read("docs/WALK.md").split("\n"), 1):
+        crate = text = ""
+        for word in re.findall(r"`([^`]+)`", line):
+            name = word.split("::")[-1]
+            path = f"crates/{crate}/src/{word}"
+            if os.path.isdir(os.path.join(ROOT, "crates", word)):
+                crate, text = word, ""
+            elif crate and word.endswith(".rt"):
+                text = read(path) if os.path.exists(os.path.join(ROOT, path)) else ""
+                if not text:
+                    yield f"docs/WALK.md:{number}: {crate} has no file {word}"
+            elif text and re.fullmatch(r"[a-z_]\w+", name) and not re.search(rf"fn {name}\b", text):
+                yield f"docs/WALK.md:{number}: {name} isn't in the file before it"
+
+
 def changing_faults() -> Iterator[str]:
     """CHANGING.md lists each file of the libraries and the program that names its example, the lock."""
     page = read("docs/CHANGING.md")
@@ -414,6 +432,7 @@ def faults() -> Iterator[str]:
     yield from room_faults()
     yield from count_faults()
     yield from changing_faults()
+    yield from walk_faults()
     yield from row_faults()
     yield from door_faults()
     yield from example_faults()
