@@ -14,7 +14,7 @@ pub write_derived-requires-clause-in_range : goal.write_derived-requires-clause-
 write_derived-requires-clause-in_range g c =
     let coding = c.args.coding.now in
     let (clause, present) = get_below coding.search.clauses c.args.number c.requires.in_range in
-    let literals : c.as_slice.result.now ≡ clause.literals = c.as_slice.ensures.value ∙ (c.in_ok-literals.ensures.joined ∙ (c.literals.ensures ∙ literals_at coding.search.clauses c.args.number clause present)) in
+    let literals : c.as_slice.result.now ≡ clause.literals = c.as_slice.ensures.value ∙ (c.in_ok-literals-in-None.ensures.joined ∙ (c.literals.ensures ∙ literals_at coding.search.clauses c.args.number clause present)) in
     subst (AreInRange (count_of coding.search)) (sym literals) (clause_in_range coding c.requires.coding c.args.number clause present)
 
 pub returns-in-Some-clause-step : goal.returns-in-Some-clause-step
@@ -27,7 +27,7 @@ returns-in_ok-step-in-None-clause-step g c =
     let coding = c.args.coding.now in
     let atoms = coding.atoms.keys in
     let (clause, present) = get_below coding.search.clauses c.args.number c.requires.in_range in
-    let literals : c.as_slice.result.now ≡ clause.literals = c.as_slice.ensures.value ∙ (c.in_ok-literals.ensures.joined ∙ (c.literals.ensures ∙ literals_at coding.search.clauses c.args.number clause present)) in
+    let literals : c.as_slice.result.now ≡ clause.literals = c.as_slice.ensures.value ∙ (c.in_ok-literals-in-None.ensures.joined ∙ (c.literals.ensures ∙ literals_at coding.search.clauses c.args.number clause present)) in
     let causes : c.causes-causes.result.now ≡ clause.causes = c.causes-causes.ensures ∙ causes_are coding.search.clauses c.args.number clause present in
     learnt_step coding c.requires.coding c.args.number (kind_in c.args.coding.now.kinds.needs c.get-kind.result) clause c.in_ok-step-in-None.step c.requires.behind c.get-kind.ensures.kind present
     (subst (IsRuleOf (kind_in c.args.coding.now.kinds.needs c.get-kind.result)) c.in-None.is c.in_ok-rule.ensures.encoded)
