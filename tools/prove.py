@@ -7,6 +7,7 @@ Usage: tools/prove.py [--anew] [--object] [CRATE]     (default: resolve)
 the crates of tests, and runs the gate (`rt ci`) over the copy. As many proofs run side by side as there are processors with 4 GB each,
 by the memory that is free as a proof begins.
 The proof that the longest chain of others waits for has two of them, or all where it is alone; how long a chain is, tools/minutes.txt says.
+In a gate a chain ends with tests and wrong bodies, so what takes long of these isn't left to the end.
 The others leave it as many of four as it has, so that the next of its chain has them too. `.ci/run` runs the whole gate in this order
 (`--gate`).
 RT_JOBS may name a number of proofs; then each has one processor.
@@ -23,8 +24,9 @@ import subprocess
 import sys
 import tempfile
 import time
+from collections import Counter
 from concurrent.futures import FIRST_COMPLETED, Future, ThreadPoolExecutor, wait
-from typing import Any, Callable, Dict, Iterator, List, Sequence, Set, Tuple
+from typing import Any, Callable, Collection, Dict, Iterator, List, Sequence, Set, Tuple
 
 TOP = os.path.dirname(os.path.dirname(os.path.abspath(__file__)))
 PARTS = ("src", "specs", "proofs", "c", "data")
@@ -86,10 +88,30 @@ def is_archive(top: str, crate: str) -> bool:
         return "staticlib" in lines_of(file.read())[crate].partition(":")[0].split()
 
 
-def minutes(text: str) -> Dict[str, float]:
-    """The minutes of the crates' proofs, by their names."""
+def minutes(text: str) -> Dict[Tuple[str, str], float]:
+    """Processor minutes by crate and kind: `proof`, `tests`, and all `edits`."""
     rows = (line.split() for line in text.split("\n") if line and not line.startswith("#"))
-    return {name: float(number) for name, number in rows}
+    return {(name, kind): float(number) for name, kind, number in rows}
+
+
+def weights(tasks: Dict[Any, Task], known: Dict[Tuple[str, str], float]) -> Dict[Any, float]:
+    """The minutes of each task: those that are known, or by its lines. A crate with several edits is proved once more for them (`seed`)."""
+    edits = Counter(key[0] for key in tasks if key[1] == "edits")
+
+    def weight(key: Any) -> float:
+        crate, kind = key[:2]
+        unknown = tasks[key][1] / LINES
+        if kind in ("proof", "tests"):
+            return known.get((crate, kind), unknown)
+        proof = known.get((crate, "proof"), 0.0)
+        if kind == "seed":
+            return proof
+        if kind == "edits":
+            before = proof if (crate, "seed") in tasks else 0.0
+            return max(known.get((crate, kind), unknown) - before, 0.0) / edits[crate]
+        return 0.0
+
+    return {key: weight(key) for key in tasks}
 
 
 def chains(tasks: Dict[Any, Task], weights: Dict[Any, float]) -> Dict[Any, float]:
@@ -108,18 +130,21 @@ def chains(tasks: Dict[Any, Task], weights: Dict[Any, float]) -> Dict[Any, float
     return {key: chain(key) for key in tasks}
 
 
-def next_tasks(ready: Sequence[Any], running: Dict[Any, int], chain: Dict[Any, float], lanes: int, most: int) -> Iterator[Tuple[Any, int]]:
-    """Those of the ready tasks that begin now, each with its processors. The task that begins the longest chain has `KEPT` of them, and
-    the others share the rest. So the next task of that chain has as many."""
+def next_tasks(
+    ready: Sequence[Any], running: Dict[Any, int], chain: Dict[Any, float], wide: Collection[Any], lanes: int, most: int
+) -> Iterator[Tuple[Any, int]]:
+    """Those of the ready tasks that begin now, each with its processors. The task that begins the longest chain has `KEPT` of them, if it
+    is a wide one, and the others share the rest. So the next task of that chain has as many."""
     longest = max(chain[key] for key in (*ready, *running))
     held = sum(jobs for key, jobs in running.items() if chain[key] == longest)
-    kept = min(held or KEPT, KEPT, lanes // 2) if longest and most > 1 else 0
+    widest = most if any(key in wide and chain[key] == longest for key in (*ready, *running)) else 1
+    kept = min(held or KEPT, KEPT, lanes // 2, widest) if longest and most > 1 else 0
     idle = lanes - sum(running.values())
     others = sum(jobs for key, jobs in running.items() if chain[key] < longest)
     for at, key in enumerate(ready):
         jobs = 1
         if chain[key] == longest > 0 and most > 1:
-            jobs = max(1, min(most, idle, max(kept, idle - (len(ready) - at - 1))))
+            jobs = max(1, min(widest, idle, max(kept, idle - (len(ready) - at - 1))))
         elif others >= lanes - kept:
             continue
         else:
@@ -149,16 +174,18 @@ def held(root: int) -> int:
     return sum(sizes[process] for process in found)
 
 
-def side_by_side(tasks: Dict[Any, Task], chain: Dict[Any, float], lanes: Callable[[], int], most: int) -> Dict[Any, Any]:
-    """Does each task once those that it waits for are done, those with the longest chain first; what each gave. How many processors there
-    are is asked anew whenever a task may begin."""
+def side_by_side(
+    tasks: Dict[Any, Task], chain: Dict[Any, float], wide: Collection[Any], lanes: Callable[[], int], most: int
+) -> Dict[Any, Any]:
+    """Does each task once those that it waits for are done, those with the longest chain first; what each gave. Several processors help
+    those that are wide. How many processors there are is asked anew whenever a task may begin."""
     left = sorted(tasks, key=lambda key: -chain[key])
     running: Dict[Future, Tuple[Any, int]] = {}
     given: Dict[Any, Any] = {}
     with ThreadPoolExecutor(THREADS) as pool:
         while left or running:
             ready = [key for key in left if all(below in given for below in tasks[key][0])]
-            for key, jobs in list(next_tasks(ready, dict(running.values()), chain, lanes(), most)):
+            for key, jobs in list(next_tasks(ready, dict(running.values()), chain, wide, lanes(), most)):
                 left.remove(key)
                 running[pool.submit(tasks[key][3], given, jobs)] = key, jobs
             for future in wait(running, return_when=FIRST_COMPLETED).done:
@@ -201,8 +228,8 @@ def gate(folder: str, flags: List[str]) -> int:
         return max(1, min(module.processors(), int((module.free() + held(os.getpid())) // MEMORY)))
 
     def in_lanes(tasks: Dict[Any, Task]) -> Dict[Any, Any]:
-        weights = {key: known.get(key[0], task[1] / LINES) if key[1] == "proof" else 0.0 for key, task in tasks.items()}
-        return side_by_side(tasks, chains(tasks, weights), lanes, most)
+        wide = {key for key in tasks if key[1] in ("proof", "seed")}
+        return side_by_side(tasks, chains(tasks, weights(tasks, known)), wide, lanes, most)
 
     module.in_lanes = in_lanes
     return module.main(["ci", *flags])

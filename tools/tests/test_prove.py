@@ -4,9 +4,9 @@ import subprocess
 import sys
 import tempfile
 import unittest
-from typing import List, Tuple
+from typing import Any, Dict, List, Tuple
 
-from tools.prove import TOP, Task, chains, closure, copy, held, is_archive, lines_of, minutes, next_tasks, side_by_side
+from tools.prove import TOP, Task, chains, closure, copy, held, is_archive, lines_of, minutes, next_tasks, side_by_side, weights
 
 LISTED = """# the lowest
 low:
@@ -16,6 +16,9 @@ beside: low
 archive staticlib: middle
 top: middle low  # the program
 """
+
+# the tasks that several processors help
+WIDE = ("long", "next")
 
 
 class Closures(unittest.TestCase):
@@ -53,13 +56,13 @@ class Order(unittest.TestCase):
     def run_by(self, lanes: int, most: int) -> List[Tuple[str, int]]:
         done: List[Tuple[str, int]] = []
         waits = {"low": [], "short": ["low"], "long": ["low"], "top": ["short", "long"]}
-        weights = {"low": 1.0, "short": 1.0, "long": 5.0, "top": 1.0}
+        took = {"low": 1.0, "short": 1.0, "long": 5.0, "top": 1.0}
 
         def task(name: str) -> Task:
             return waits[name], 0, 0, lambda given, jobs: done.append((name, jobs))
 
         tasks = {name: task(name) for name in ("top", "short", "long", "low")}
-        side_by_side(tasks, chains(tasks, weights), lambda: lanes, most)
+        side_by_side(tasks, chains(tasks, took), waits, lambda: lanes, most)
         return done
 
     def test_the_longest_chain_is_first_and_has_two(self) -> None:
@@ -68,14 +71,25 @@ class Order(unittest.TestCase):
 
     def test_the_longest_chain_keeps_two(self) -> None:
         chain = {"long": 5.0, "next": 4.0, "short": 1.0, "edit": 0.0, "other": 0.0, "last": 0.0}
-        self.assertEqual(list(next_tasks(["short", "edit", "other"], {"long": 2}, chain, 4, 4)), [("short", 1), ("edit", 1)])
-        self.assertEqual(list(next_tasks(["next", "last"], {"short": 1, "edit": 1}, chain, 4, 4)), [("next", 2)])
-        self.assertEqual(list(next_tasks(["edit", "other", "last"], {}, chain, 4, 4)), [("edit", 1), ("other", 1), ("last", 1)])
+        self.assertEqual(list(next_tasks(["short", "edit", "other"], {"long": 2}, chain, WIDE, 4, 4)), [("short", 1), ("edit", 1)])
+        self.assertEqual(list(next_tasks(["next", "last"], {"short": 1, "edit": 1}, chain, WIDE, 4, 4)), [("next", 2)])
+        self.assertEqual(list(next_tasks(["edit", "other", "last"], {}, chain, WIDE, 4, 4)), [("edit", 1), ("other", 1), ("last", 1)])
+
+    def test_an_edit_has_one_processor(self) -> None:
+        chain = {"edit": 5.0, "short": 1.0, "other": 1.0}
+        self.assertEqual(list(next_tasks(["edit", "short", "other"], {}, chain, WIDE, 3, 4)), [("edit", 1), ("short", 1), ("other", 1)])
+        self.assertEqual(list(next_tasks(["edit"], {}, chain, WIDE, 4, 4)), [("edit", 1)])
+
+    def test_minutes_of_edits(self) -> None:
+        names = [("a", "proof"), ("a", "tests"), ("a", "seed"), ("a", "edits", 0), ("a", "edits", 1), ("b", "proof"), ("b", "edits", 0), ("a", "sound")]
+        tasks: Dict[Any, Task] = {name: ([], 3000, 0, lambda given, jobs: None) for name in names}
+        known = minutes("# crate, kind, minutes\na proof 4.0\na edits 6.0\nb edits 3.0\n")
+        self.assertEqual(list(weights(tasks, known).values()), [4.0, 2.0, 4.0, 1.0, 1.0, 2.0, 3.0, 0.0])
 
     def test_two_processors_are_shared(self) -> None:
         chain = {"long": 5.0, "short": 1.0, "edit": 0.0}
-        self.assertEqual(list(next_tasks(["long", "short", "edit"], {}, chain, 2, 4)), [("long", 1), ("short", 1)])
-        self.assertEqual(list(next_tasks(["long"], {}, chain, 2, 4)), [("long", 2)])
+        self.assertEqual(list(next_tasks(["long", "short", "edit"], {}, chain, WIDE, 2, 4)), [("long", 1), ("short", 1)])
+        self.assertEqual(list(next_tasks(["long"], {}, chain, WIDE, 2, 4)), [("long", 2)])
 
     def test_processors_that_come_later_are_used(self) -> None:
         begun: List[int] = []
@@ -85,7 +99,7 @@ class Order(unittest.TestCase):
 
         tasks = {"low": task("low", []), "top": task("top", ["low"])}
         free = iter((1, 3))
-        side_by_side(tasks, chains(tasks, {"low": 1.0, "top": 1.0}), lambda: next(free, 3), 4)
+        side_by_side(tasks, chains(tasks, {"low": 1.0, "top": 1.0}), tasks, lambda: next(free, 3), 4)
         self.assertEqual(begun, [1, 3])
 
     def test_what_a_proof_holds_counts_as_free(self) -> None:
@@ -104,8 +118,10 @@ class Order(unittest.TestCase):
             known = minutes(file.read())
         with open(os.path.join(TOP, "crates.txt"), encoding="utf-8") as file:
             lines = lines_of(file.read())
-        self.assertFalse(set(closure(lines, "resolve")) - set(known))
-        self.assertFalse(set(known) - set(lines))
+        self.assertFalse(set(closure(lines, "resolve")) - {name for name, _ in known})
+        self.assertFalse({name for name, _ in known} - set(lines))
+        edited = {name for name in lines if os.path.isdir(os.path.join(TOP, "crates", name, "must-fail"))}
+        self.assertEqual(edited, {name for name, kind in known if kind == "edits"})
 
 
 if __name__ == "__main__":
