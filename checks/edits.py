@@ -137,12 +137,13 @@ def main(words: list[str]) -> int:
     if "-h" in words or "--help" in words:
         print(__doc__, end="")
         return 0
-    known = sorted(it.name for it in EDITS.iterdir() if it.is_dir())
     is_apply = "--apply" in words
+    places = [*EDITS.iterdir(), *(it.parent for it in TOP.glob("crates/*/must-fail") if is_apply)]
+    known = sorted({it.name for it in places if it.is_dir()})
     named = [it for it in words if it != "--apply"]
     strangers = [it for it in named if it not in known]
     if strangers:
-        print(f"checks/edits has no folder {strangers[0]}; it has: {' '.join(known)}", file=sys.stderr)
+        print(f"{strangers[0]} has no edits; these crates have: {' '.join(known)}", file=sys.stderr)
         return 2
     crates = named or known
     return apply_all(crates) if is_apply else try_all(crates)
