@@ -40,6 +40,11 @@ needed() {
 	readelf -d "$1" | sed -n 's/.*(NEEDED).*\[\(.*\)\]/\1/p' | tr '\n' ' '
 }
 
+# the libraries of the kit that crates.txt names
+of_kit() {
+	sed -e 's/#.*//' -e 's/^[^:]*://' crates.txt | tr ' ' '\n' | grep -v '^resol' | grep . | sort -u | paste -s -d , | sed 's/,/, /g'
+}
+
 gate() {
 	if [ -n "${GATE_LOG:-}" ]; then
 		tail -n 3 "$GATE_LOG"
@@ -65,7 +70,7 @@ gate() {
 	echo "    lib/libresolve.a, lib/libresolve_judge.a: malloc, realloc, free, memmove and the like of the program"
 	echo
 	echo "Whose code is in the programs and archives: this repository's (LICENSE); the standard library of the Rattle kit, and its crates"
-	echo "indexmap, itertools and thiserror; the kit's C part, which passes requests on to the system; in bin/resolve-static also the"
+	echo "$(of_kit); the kit's C part, which passes requests on to the system; in bin/resolve-static also the"
 	echo "system's C library. The kit carries no licence text of its own."
 	echo
 	echo "Trusted beside the proofs: the kit (its prover, its compilers, the statements of its libraries), the C compiler and the C library,"
