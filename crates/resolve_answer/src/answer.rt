@@ -177,8 +177,8 @@ fn refused(
 /// The problem of a request with these wishes.
 fn problem_of(asked: RequestIds, free: Vec<SolvableId>) -> Problem<SolvableId, IntoIter<SolvableId>>
     ensures root { root_of result ≡ asked_of asked }
-    ensures wishes { GivesAll ⟦<IntoIter<SolvableId> as Iterator>⟧.next_gives result.soft_requirements
-        free.items }
+    ensures wishes { GivesAll ⟦<IntoIter<SolvableId> as Iterator>⟧.next_gives
+        result.soft_requirements free.items }
 {
     let RequestIds {
         requirements,

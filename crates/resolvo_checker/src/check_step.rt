@@ -167,7 +167,8 @@ fn number_derived(
     literals: &[report::Literal],
 ) -> Result<bool, AllocError>
     ensures fine { IfOk result
-        (λ fine. fine ≡ list_all (λ l. is_atom catalogue.now l.atom) (report_literals literals.now)) }
+        (λ fine.
+        fine ≡ list_all (λ l. is_atom catalogue.now l.atom) (report_literals literals.now)) }
     ensures extends { IfOk result
         (λ fine.
         IsTrue fine
@@ -238,8 +239,10 @@ fn build(
 ) -> Result<(), AllocError>
     ensures represents { OnOk result
         ((places : List (Option ℕ)) (rules : List (Vec ℕ × ℕ)) (earlier : List StepValue)
-        → CheckerInvariant catalogue.now request.now.lines numbers.old clauses.old.kept places rules earlier
-        → CheckerInvariant catalogue.now request.now.lines numbers.new clauses.new.kept places rules earlier) }
+        → CheckerInvariant catalogue.now request.now.lines numbers.old clauses.old.kept
+        places rules earlier
+        → CheckerInvariant catalogue.now request.now.lines numbers.new clauses.new.kept
+        places rules earlier) }
     ensures ready { OnOk result (deferred_at clauses.new.kept place ≡ None) }
     ensures stays { OnOk result
         ((n : ℕ) → deferred_at clauses.old.kept n ≡ None → deferred_at clauses.new.kept n ≡ None) }
@@ -267,8 +270,10 @@ fn build_causes(
 ) -> Result<(), AllocError>
     ensures represents { OnOk result
         ((places : List (Option ℕ)) (rules : List (Vec ℕ × ℕ)) (earlier : List StepValue)
-        → CheckerInvariant catalogue.now request.now.lines numbers.old clauses.old.kept places rules earlier
-        → CheckerInvariant catalogue.now request.now.lines numbers.new clauses.new.kept places rules earlier) }
+        → CheckerInvariant catalogue.now request.now.lines numbers.old clauses.old.kept
+        places rules earlier
+        → CheckerInvariant catalogue.now request.now.lines numbers.new clauses.new.kept
+        places rules earlier) }
     ensures ready { OnOk result (list_all (is_ready clauses.new.kept) causes.now ≡ true) }
     ensures count { OnOk result (length clauses.new.kept ≡ length clauses.old.kept) }
     ensures readings { clauses.new.readings ≡ clauses.old.readings }
@@ -466,10 +471,12 @@ fn add(
         IsTrue fine
         → AddsStep catalogue.now request.now.lines (step_of step.now)
         checker.old clauses.old.kept checker.new clauses.new.kept) }
-    ensures later { IfOk result (λ fine. IsTrue fine → checker.new.truth.pass ≤ length clauses.new.kept) }
+    ensures later { IfOk result (λ fine. IsTrue fine
+        → checker.new.truth.pass ≤ length clauses.new.kept) }
     ensures long { IfOk result
         (λ fine. IsTrue fine → length checker.new.places.items ≡ length (listed catalogue.now)) }
-    ensures count { IfOk result (λ fine. IsTrue fine → length clauses.new.kept ≡ length clauses.old.kept + 1) }
+    ensures count { IfOk result (λ fine. IsTrue fine
+        → length clauses.new.kept ≡ length clauses.old.kept + 1) }
     ensures read { IfOk result
         (λ fine.
         IsTrue fine
@@ -532,10 +539,12 @@ fn defer_or_add(
         IsTrue fine
         → AddsStep catalogue.now request.now.lines (step_of step.now)
         checker.old clauses.old.kept checker.new clauses.new.kept) }
-    ensures later { IfOk result (λ fine. IsTrue fine → checker.new.truth.pass ≤ length clauses.new.kept) }
+    ensures later { IfOk result (λ fine. IsTrue fine
+        → checker.new.truth.pass ≤ length clauses.new.kept) }
     ensures long { IfOk result
         (λ fine. IsTrue fine → length checker.new.places.items ≡ length (listed catalogue.now)) }
-    ensures count { IfOk result (λ fine. IsTrue fine → length clauses.new.kept ≡ length clauses.old.kept + 1) }
+    ensures count { IfOk result (λ fine. IsTrue fine
+        → length clauses.new.kept ≡ length clauses.old.kept + 1) }
     ensures read { IfOk result
         (λ fine.
         IsTrue fine
@@ -581,7 +590,8 @@ fn repeat(
         IsTrue fine
         → clauses.new.kept
         ≡ clauses.old.kept ++ slice_index_or clauses.old.kept earlier (Ready []) ∷ []) }
-    ensures count { IfOk result (λ fine. IsTrue fine → length clauses.new.kept ≡ length clauses.old.kept + 1) }
+    ensures count { IfOk result (λ fine. IsTrue fine
+        → length clauses.new.kept ≡ length clauses.old.kept + 1) }
     ensures readings { clauses.new.readings ≡ clauses.old.readings }
 {
     if !is_named(scope, step) {
@@ -618,10 +628,12 @@ pub fn check_step(
         IsTrue fine
         → AddsStep catalogue.now request.now.lines (step_of step.now)
         checker.old clauses.old.kept checker.new clauses.new.kept) }
-    ensures later { IfOk result (λ fine. IsTrue fine → checker.new.truth.pass ≤ length clauses.new.kept) }
+    ensures later { IfOk result (λ fine. IsTrue fine
+        → checker.new.truth.pass ≤ length clauses.new.kept) }
     ensures long { IfOk result
         (λ fine. IsTrue fine → length checker.new.places.items ≡ length (listed catalogue.now)) }
-    ensures count { IfOk result (λ fine. IsTrue fine → length clauses.new.kept ≡ length clauses.old.kept + 1) }
+    ensures count { IfOk result (λ fine. IsTrue fine
+        → length clauses.new.kept ≡ length clauses.old.kept + 1) }
     ensures read { IfOk result
         (λ fine.
         IsTrue fine

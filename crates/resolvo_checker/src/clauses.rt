@@ -95,7 +95,8 @@ fn long_of(kept: &[Kept], n: usize) -> Option<usize>
 /// The n-th step, n from 0, if its clause is deferred.
 fn step_at<'a>(longs: &'a [Long], kept: &[Kept], n: usize) -> Option<&'a Step>
     ensures { (flat : List KeptLiteral)
-        → option_map step_of (option_copied result) ≡ deferred_at (pieces flat longs.now kept.now) n }
+        → option_map step_of (option_copied result)
+        ≡ deferred_at (pieces flat longs.now kept.now) n }
 {
     let Some(Kept::Long(place)) = kept.get(n) else {
         return None;
@@ -165,7 +166,8 @@ fn repeat_piece(kept: &mut Vec<Kept>, n: usize) -> Result<(), AllocError>
     ensures ok { OnOk result
         ((flat : List KeptLiteral) (longs : List CodeLong)
         → pieces flat longs kept.new.items
-        ≡ pieces flat longs kept.old.items ++ slice_index_or (pieces flat longs kept.old.items) n (Ready [])
+        ≡ pieces flat longs kept.old.items
+        ++ slice_index_or (pieces flat longs kept.old.items) n (Ready [])
         ∷ []) }
     ensures err { OnErr result (kept.new.items ≡ kept.old.items) }
 {
@@ -233,7 +235,8 @@ impl Flat {
     /// Adds the n-th clause again, n from 0.
     fn repeat(&mut self, n: usize) -> Result<(), AllocError>
         requires within { n < length self.old }
-        ensures ok { OnOk result (self.new ≡ self.old ++ slice_index_or self.old n (Ready []) ∷ []) }
+        ensures ok { OnOk result
+            (self.new ≡ self.old ++ slice_index_or self.old n (Ready []) ∷ []) }
         ensures err { OnErr result (self.new ≡ self.old) }
     {
         repeat_piece(&mut self.kept, n)
@@ -249,7 +252,8 @@ impl Flat {
     /// Builds the n-th clause, n from 0, if it is deferred.
     fn build(&mut self, n: usize, clause: &[Literal]) -> Result<(), AllocError>
         ensures built { OnOk result
-            ((s : StepValue) → deferred_at self.old n ≡ Some s → AreBuilt s clause.now self.old self.new) }
+            ((s : StepValue) → deferred_at self.old n ≡ Some s
+            → AreBuilt s clause.now self.old self.new) }
         ensures ready { OnOk result (deferred_at self.new n ≡ None) }
     {
         match long_of(&self.kept, n) {
@@ -348,7 +352,8 @@ impl Clauses {
         requires { self.old.readings.read + 1 < 2 ^ 64 }
         ensures last { self.new.last ≡ step }
         ensures kept { self.new.kept ≡ self.old.kept }
-        ensures read { self.new.readings ≡ record self.old.readings { read = self.old.readings.read + 1 } }
+        ensures read { self.new.readings
+            ≡ record self.old.readings { read = self.old.readings.read + 1 } }
     {
         self.readings.read += 1;
         self.last = step;
@@ -369,7 +374,8 @@ impl Clauses {
     pub fn name(&mut self, count: u64)
         requires { self.old.readings.named + count < 2 ^ 64 }
         ensures kept { self.new.kept ≡ self.old.kept }
-        ensures named { self.new.readings ≡ record self.old.readings { named = self.old.readings.named + count } }
+        ensures named { self.new.readings
+            ≡ record self.old.readings { named = self.old.readings.named + count } }
     {
         self.readings.named += count;
     }

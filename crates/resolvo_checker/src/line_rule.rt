@@ -49,7 +49,8 @@ pub fn rule_asked(request: &Request, line: u32) -> Option<&Rule>
 }
 
 fn is_same(version: &Version, listed: (&str, u32)) -> bool
-    ensures { result ≡ same_version (version_of version.now) (version_by listed.entry.0.now listed.entry.1) }
+    ensures { result
+        ≡ same_version (version_of version.now) (version_by listed.entry.0.now listed.entry.1) }
 {
     version.name.as_str() == listed.0 && version.number == listed.1
 }

@@ -87,7 +87,8 @@ fn check_from(
     clauses: &mut Clauses,
     steps: &[Step],
 ) -> Result<Option<usize>, AllocError>
-    requires represents { CheckerInvariant catalogue.now request.now.lines checker.old.numbers clauses.old.kept
+    requires represents { CheckerInvariant catalogue.now request.now.lines checker.old.numbers
+        clauses.old.kept
         checker.old.places.items checker.old.rules [] }
     requires pass { checker.old.truth.pass ≡ 0 }
     requires count { clauses.old.kept ≡ [] }
@@ -144,8 +145,10 @@ pub fn check_steps(
         (IsProof catalogue.now request.now.lines (names_catalogue scope.now)
         (names_request scope.now) (steps_of steps.now))) }
     // Each named clause was read once for each naming.
-    ensures named { IfOk result (λ c. IfNone c.wrong (c.readings.named ≡ count_causes (steps_of steps.now))) }
-    ensures read { IfOk result (λ c. IfNone c.wrong (c.readings.read ≡ count_causes (steps_of steps.now))) }
+    ensures named { IfOk result (λ c. IfNone c.wrong
+        (c.readings.named ≡ count_causes (steps_of steps.now))) }
+    ensures read { IfOk result (λ c. IfNone c.wrong
+        (c.readings.read ≡ count_causes (steps_of steps.now))) }
     // Where a proof ends with the empty clause, no single set obeys the lines.
     ensures refutes { IfOk result
         (λ c.

@@ -32,7 +32,8 @@ use std::alloc::{AllocError, Global};
 
 /// The number of a version, if it is listed.
 pub fn number_of(catalogue: &Catalogue, version: &Version) -> Option<VersionNo>
-    ensures found { IfSome result (λ n. version_at catalogue.now n.0 ≡ Some (version_of version.now)) }
+    ensures found { IfSome result
+        (λ n. version_at catalogue.now n.0 ≡ Some (version_of version.now)) }
     ensures listed { is_some result ≡ is_listed catalogue.now (version_of version.now) }
 {
     match catalogue.find(&version.name, version.number) {
@@ -49,7 +50,8 @@ fn is_outside(spec: &Spec, version: &Version) -> bool
 }
 
 fn is_locked_by(locked: (&str, u32), version: &Version) -> bool
-    ensures { result ≡ is_locked_out (version_by locked.entry.0.now locked.entry.1) (version_of version.now) }
+    ensures { result
+        ≡ is_locked_out (version_by locked.entry.0.now locked.entry.1) (version_of version.now) }
 {
     version.name.as_str() == locked.0 && version.number != locked.1
 }

@@ -180,14 +180,16 @@ impl Chosen {
 
     /// Whether a version is chosen.
     pub fn has(&self, version: &Version) -> bool
-        ensures { (set : Set) → Holds self.now set → result ≡ is_member (version_of version.now) set }
+        ensures { (set : Set) → Holds self.now set
+            → result ≡ is_member (version_of version.now) set }
     {
         self.index(&version.name, version.number).is_some()
     }
 
     /// Whether a version, as the catalogue lists it, is chosen.
     pub fn has_listed(&self, version: (&str, u32)) -> bool
-        ensures { (set : Set) → Holds self.now set → result ≡ is_member (version_by version.entry.0.now version.entry.1) set }
+        ensures { (set : Set) → Holds self.now set
+            → result ≡ is_member (version_by version.entry.0.now version.entry.1) set }
     {
         self.index(version.0, version.1).is_some()
     }

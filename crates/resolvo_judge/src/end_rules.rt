@@ -110,7 +110,8 @@ fn keeps_line(chosen: &Chosen, catalogue: &Catalogue, line: u32) -> Result<bool,
 
 /// Whether they obey the line of the request.
 fn keeps_request_line(chosen: &Chosen, catalogue: &Catalogue, request: &Request, line: u32) -> bool
-    ensures { (set : Set) → Holds chosen.now set → result ≡ keeps_in_request request.now.lines line set }
+    ensures { (set : Set) → Holds chosen.now set
+        → result ≡ keeps_in_request request.now.lines line set }
 {
     match request.rule(line) {
         Some(rule) => obeys(chosen, &catalogue.versions(), rule),

@@ -40,7 +40,8 @@ pub struct Entries {
 }
 
 fn any_matches(alternatives: &[Spec], version: &Version) -> bool
-    ensures { result ≡ list_any (λ s. matches (spec_of s) (version_of version.now)) alternatives.now }
+    ensures { result
+        ≡ list_any (λ s. matches (spec_of s) (version_of version.now)) alternatives.now }
 {
     alternatives.iter().any(|spec| matches(spec, version))
 }
@@ -62,7 +63,8 @@ fn matches_at(alternatives: &[Spec], place: Option<usize>, version: &Version) ->
 
 /// Whether the version matches one of the alternatives. That of the place is tried first.
 fn one_matches(alternatives: &[Spec], place: Option<usize>, version: &Version) -> bool
-    ensures { result ≡ list_any (λ s. matches s (version_of version.now)) (specs_of alternatives.now) }
+    ensures { result
+        ≡ list_any (λ s. matches s (version_of version.now)) (specs_of alternatives.now) }
 {
     if matches_at(alternatives, place, version) {
         return true;

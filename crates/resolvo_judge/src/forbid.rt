@@ -24,7 +24,8 @@ use resolvo_report::{Atom, Literal, Step};
 use std::alloc::{AllocError, Global};
 
 fn is_same(listed: (&str, u32), wish: &Version) -> bool
-    ensures { result ≡ same_version (version_by listed.entry.0.now listed.entry.1) (version_of wish.now) }
+    ensures { result
+        ≡ same_version (version_by listed.entry.0.now listed.entry.1) (version_of wish.now) }
 {
     listed.0 == wish.name.as_str() && listed.1 == wish.number
 }

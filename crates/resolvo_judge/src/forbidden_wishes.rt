@@ -32,7 +32,8 @@ fn add_wish(
     by_step: &mut BTreeMap<u32, Vec<Forbidden>>,
     forbidden: Forbidden,
 ) -> Result<(), AllocError>
-    ensures { OnOk result (AddsWish (get nat_cmp by_step.old) (forbidden_of forbidden) (get nat_cmp by_step.new)) }
+    ensures { OnOk result
+        (AddsWish (get nat_cmp by_step.old) (forbidden_of forbidden) (get nat_cmp by_step.new)) }
 {
     let step = forbidden.step;
     if let Some(kept) = by_step.get_mut(&step) {

@@ -273,7 +273,8 @@ fn installs(
 ) -> Result<bool, AllocError>
     ensures { (r : ReportValue)
         → is_refusal (report_lines r) ≡ false
-        → JudgeInvariant catalogue.now request.now.lines judging.now clauses.now.kept (report_lines r)
+        → JudgeInvariant catalogue.now request.now.lines judging.now clauses.now.kept
+        (report_lines r)
         → IfOk result (DecidesEnd catalogue.now request.now.lines (report_lines r)) }
 {
     let entries = &judging.entries;
@@ -291,7 +292,8 @@ pub fn may_end(
     clauses: &Clauses,
 ) -> Result<bool, AllocError>
     ensures { (r : ReportValue)
-        → JudgeInvariant catalogue.now request.now.lines judging.now clauses.now.kept (report_lines r)
+        → JudgeInvariant catalogue.now request.now.lines judging.now clauses.now.kept
+        (report_lines r)
         → IfOk result (DecidesEnd catalogue.now request.now.lines (report_lines r)) }
 {
     if judging.refused {

@@ -18,7 +18,8 @@ ghost use Rattle.resolvo_judge.specs.Judgement.{IsUpheld, IsRefusedAt};
 /// The clause of each step of a proof is true in each single set that obeys the proof's lines.
 /// Each version has one place, and auxiliary atoms have their defined values.
 pub fn steps_are_true()
-    ensures { (catalogue request : List Line) (catalogue_lines request_lines : List ℕ) (steps : List Step)
+    ensures { (catalogue request : List Line) (catalogue_lines request_lines : List ℕ)
+        (steps : List Step)
         (set : Set)
         → IsProof catalogue request (is_named catalogue_lines) (is_named request_lines) steps
         → IsSingle catalogue set
@@ -28,7 +29,8 @@ pub fn steps_are_true()
 
 /// A proof that ends with the empty clause refutes its lines.
 pub fn proof_refutes()
-    ensures { (catalogue request : List Line) (catalogue_lines request_lines : List ℕ) (steps : List Step)
+    ensures { (catalogue request : List Line) (catalogue_lines request_lines : List ℕ)
+        (steps : List Step)
         → IsProof catalogue request (is_named catalogue_lines) (is_named request_lines) steps
         → ends_empty steps ≡ true
         → AreRefuted catalogue request catalogue_lines request_lines }
@@ -37,7 +39,8 @@ pub fn proof_refutes()
 /// If the only literals of a step's clause are `not` of a wish and of entries, no rule-keeping set
 /// has them all.
 pub fn proof_forbids()
-    ensures { (catalogue request : List Line) (steps : List Step) (entries : Set) (wish : Version) (n : ℕ)
+    ensures { (catalogue request : List Line) (steps : List Step) (entries : Set) (wish : Version)
+        (n : ℕ)
         (step : Step) (clause : Clause)
         → IsProof catalogue request every_line every_line steps
         → slice_get steps n ≡ Some step
@@ -80,7 +83,8 @@ pub fn upheld_texts_are_refused_nowhere()
 
 /// A refused report that is upheld stays so with any other message, or with none.
 pub fn messages_change_nothing()
-    ensures { (catalogue request : List Line) (catalogue_lines request_lines : List ℕ) (steps : List Step)
+    ensures { (catalogue request : List Line) (catalogue_lines request_lines : List ℕ)
+        (steps : List Step)
         (message other : List (List ℕ))
         → AllByRecursion HasText (map Message other)
         → IsUpheld catalogue request

@@ -69,7 +69,8 @@ impl Versions {
 
     /// Whether a version was added.
     pub fn has(&self, version: &Version) -> bool
-        ensures { (set : Set) → HoldsAll self.now set → result ≡ is_member (version_of version.now) set }
+        ensures { (set : Set) → HoldsAll self.now set
+            → result ≡ is_member (version_of version.now) set }
     {
         self.numbers_of(&version.name).contains(&version.number)
     }
