@@ -98,7 +98,8 @@ fn gives(
     }
 }
 
-fn is_same(one: &Version, other: &Version) -> bool
+/// Whether the versions have the same name and number.
+pub fn is_same(one: &Version, other: &Version) -> bool
     ensures { result ≡ same_version (version_of one.now) (version_of other.now) }
 {
     one.name == other.name && one.number == other.number

@@ -16,6 +16,7 @@ ghost use Rattle.resolvo_judge.specs.ForbiddenWishes.{forbidden_of};
 ghost use Rattle.resolvo_judge.specs.Forbids.{literal_forbids, built_forbid, clause_forbids};
 
 use crate::chosen::Chosen;
+use crate::entries::is_same;
 use crate::forbidden_wishes::Forbidden;
 use resolvo_catalogue_core::{Catalogue, Request, Version, VersionNo, Versions};
 use resolvo_checker::atom::{Atom as BuiltAtom, Built};
@@ -23,7 +24,7 @@ use resolvo_checker::steps::clause_of;
 use resolvo_report::{Atom, Literal, Step};
 use std::alloc::{AllocError, Global};
 
-fn is_same(listed: (&str, u32), wish: &Version) -> bool
+fn is_wish(listed: (&str, u32), wish: &Version) -> bool
     ensures { result
         ≡ same_version (version_by listed.entry.0.now listed.entry.1) (version_of wish.now) }
 {
@@ -48,7 +49,7 @@ fn is_listed_among(
 {
     match versions.get(version) {
         Some(listed) => {
-            is_same(listed, &forbidden.wish) || chosen.has_listed_among(listed, forbidden.above)
+            is_wish(listed, &forbidden.wish) || chosen.has_listed_among(listed, forbidden.above)
         }
         None => false,
     }
@@ -88,8 +89,7 @@ fn is_among(chosen: &Chosen, version: &Version, forbidden: &Forbidden) -> bool
         ≡ (same_version (version_of version.now) (version_of forbidden.now.wish) || is_member
         (version_of version.now) (take forbidden.now.above set)) }
 {
-    let is_wish = version.name == forbidden.wish.name && version.number == forbidden.wish.number;
-    is_wish || chosen.has_among(version, forbidden.above)
+    is_same(version, &forbidden.wish) || chosen.has_among(version, forbidden.above)
 }
 
 /// Whether the literal is `not` of the wish, or of an entry above its line.
