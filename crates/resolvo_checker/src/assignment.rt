@@ -46,11 +46,9 @@ impl Assignment {
     pub fn known(&self, variable: usize) -> Option<bool>
         ensures { result ≡ known_in self.now.marks.items self.now.pass variable }
     {
-        let mark = self.marks.get(variable)?;
-        if mark.pass == self.pass {
-            mark.value
-        } else {
-            None
+        match self.marks.get(variable) {
+            Some(mark) if mark.pass == self.pass => mark.value,
+            _ => None,
         }
     }
 
