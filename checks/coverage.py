@@ -38,9 +38,12 @@ def rows_listed():
 
 
 def requests_listed():
-    """A line for each case of the solver: its title, and what it shows."""
+    """A line for each case of the solver that is written by hand: its title, and what it shows. And one for the generated ones."""
+    by_hand = [case for case in requests_kept.cases() if not requests_kept.is_of_seed(case)]
+    count = len(requests_kept.cases()) - len(by_hand)
     lines = ["| Case in `crates/resolvo_rows/stdin` | Shows |", "|---|---|"]
-    return lines + [f"| {case.title} | {', '.join(it for it in case.sections if it not in ('catalogue', 'request'))} |" for case in requests_kept.cases()]
+    lines += [f"| {case.title} | {', '.join(it for it in case.sections if it not in ('catalogue', 'request'))} |" for case in by_hand]
+    return lines + [f"| those of {count} seeds | answer, answer without hint |"]
 
 
 def store_rows_listed():

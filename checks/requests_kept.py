@@ -21,3 +21,8 @@ def case_of(text):
 def cases():
     with open(FILE, encoding="utf-8") as file:
         return [case_of(text) for text in file.read().split("# ")[1:]]
+
+
+def is_of_seed(case):
+    """Whether request_pairs.py wrote the case."""
+    return case.title.startswith("pair of seed ")

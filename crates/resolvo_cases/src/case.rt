@@ -10,8 +10,3 @@ pub fn section<'a>(case: &'a str, heading: &str) -> Option<&'a str> {
     let (_, below) = case.split_once(heading)?;
     Some(below.split("== ").next().unwrap_or(below))
 }
-
-/// The number on a line; 0 where there is none.
-pub fn number_in(line: &str) -> u32 {
-    line.trim_end().parse::<u32>().unwrap_or(0)
-}

@@ -1,10 +1,9 @@
 //! The cases of a text.
 
 use crate::answer::Answer;
-use crate::case::{number_in, section};
+use crate::case::section;
 use crate::compare::compare_case;
 use crate::ids::compare_ids;
-use crate::pairs::compare_pairs;
 use crate::solver_under_test::SolverUnderTest;
 use crate::tally::Tally;
 use resolvo_pool::R;
@@ -17,9 +16,6 @@ fn run_case<S: SolverUnderTest>(
     answer: &mut Answer,
     tally: &mut Tally,
 ) -> R<()> {
-    if let Some(count) = section(case, "== pairs\n") {
-        return compare_pairs(alloc, solver, number_in(count), tally);
-    }
     if section(case, "== ids\n").is_some() {
         return compare_ids(alloc, tally);
     }

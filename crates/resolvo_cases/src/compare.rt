@@ -122,7 +122,7 @@ fn compare_searches<S: SolverUnderTest>(
     }
 }
 
-/// Compares the questions of a provider by which no dependencies are at hand.
+/// Compares the answer by a provider by which no dependencies are at hand, and its questions.
 fn compare_unhinted<S: SolverUnderTest>(
     alloc: Global,
     solver: &S,
@@ -131,16 +131,22 @@ fn compare_unhinted<S: SolverUnderTest>(
     answer: &mut Answer,
     tally: &mut Tally,
 ) -> R<()> {
-    if section(case, "== asked without hint\n").is_some() {
-        answer_to(alloc, solver, texts, Hint::None, u32::MAX, answer)?;
-        compare_part(
-            case,
-            "== asked without hint\n",
-            answer.asked.as_str(),
-            tally,
-        )?;
+    answer_to(alloc, solver, texts, Hint::None, u32::MAX, answer)?;
+    if answer.lacks_memory() {
+        return Err(Want::Memory);
     }
-    Ok(())
+    compare_part(
+        case,
+        "== answer without hint\n",
+        answer.first.as_str(),
+        tally,
+    )?;
+    compare_part(
+        case,
+        "== asked without hint\n",
+        answer.asked.as_str(),
+        tally,
+    )
 }
 
 /// Compares the candidates of the request's first need, in their order, and those that its first limit leaves out.

@@ -7,7 +7,6 @@ mod case;
 pub mod cases;
 mod compare;
 mod ids;
-mod pairs;
 pub mod solver_under_test;
 pub mod tally;
 mod texts;

@@ -29,12 +29,4 @@ pub trait SolverUnderTest {
         asked: Asked<'_, P::SolvableId>,
         answer: &mut Answer,
     ) -> R<()>;
-
-    /// The versions that it chooses; none where it refuses.
-    fn chosen<C: Drop, P: DependencyProvider<Cancel = C> + Drop>(
-        &self,
-        alloc: Global,
-        provider: P,
-        asked: Asked<'_, P::SolvableId>,
-    ) -> R<Option<Vec<P::SolvableId>>>;
 }

@@ -2,10 +2,9 @@
 
 use std::alloc::Global;
 
-/// How many cases and generated pairs there were, how many answers differ, and these as lines.
+/// How many cases there were, how many answers differ, and these as lines.
 pub struct Tally {
     pub cases: u32,
-    pub pairs: u32,
     pub differing: u32,
     pub text: String,
 }
@@ -14,7 +13,6 @@ impl Drop for Tally {
     fn drop(self) {
         let Tally {
             cases: _,
-            pairs: _,
             differing: _,
             text: _,
         } = self;
@@ -25,7 +23,6 @@ impl Tally {
     pub fn new(alloc: Global) -> Tally {
         Tally {
             cases: 0,
-            pairs: 0,
             differing: 0,
             text: String::new(alloc),
         }

@@ -12,11 +12,10 @@ use std::io;
 use std::process::ExitCode;
 use tried_solver::TriedSolver;
 
-/// Prints the answers that differ, and last how many cases and pairs were run.
+/// Prints the answers that differ, and last how many cases were run.
 fn print(rt: &HostRuntime, ended: R<()>, tally: &Tally) -> io::Result<ExitCode> {
     let Tally {
         cases,
-        pairs,
         differing,
         text,
     } = tally;
@@ -25,9 +24,7 @@ fn print(rt: &HostRuntime, ended: R<()>, tally: &Tally) -> io::Result<ExitCode> 
         println!(rt; "{want}")?;
         return Ok(ExitCode::from(1));
     }
-    println!(rt;
-        "{cases} cases and {pairs} generated pairs, of which {differing} are answered otherwise"
-    )?;
+    println!(rt; "{cases} cases, of which {differing} are answered otherwise")?;
     Ok(ExitCode::from(u8::from(*differing > 0)))
 }
 

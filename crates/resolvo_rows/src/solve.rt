@@ -2,7 +2,7 @@
 
 use resolvo::{Problem, Solver, UnsolvableOrCancelled};
 use resolvo_cases::solver_under_test::Asked;
-use resolvo_pool::{ConditionalRequirement, DependencyProvider, R, VersionSetId, Want};
+use resolvo_pool::{ConditionalRequirement, DependencyProvider, VersionSetId};
 use std::alloc::Global;
 
 fn solve_with<P: DependencyProvider>(
@@ -41,19 +41,5 @@ pub fn solved<P: DependencyProvider>(
     match Vec::from_slice(alloc, asked.needs) {
         Ok(requirements) => solve_for(alloc, solver, requirements, asked),
         Err(_) => Err(UnsolvableOrCancelled::Memory),
-    }
-}
-
-/// The versions that a solver chooses; none where it refuses.
-pub fn chosen_by<C: Drop, P: DependencyProvider<Cancel = C>>(
-    alloc: Global,
-    solver: &mut Solver<P>,
-    asked: Asked<'_, P::SolvableId>,
-) -> R<Option<Vec<P::SolvableId>>> {
-    match solved(alloc, solver, asked) {
-        Ok(chosen) => Ok(Some(chosen)),
-        Err(UnsolvableOrCancelled::Unsolvable(_)) => Ok(None),
-        Err(UnsolvableOrCancelled::Memory) => Err(Want::Memory),
-        Err(_) => Err(Want::Ids),
     }
 }

@@ -1,6 +1,5 @@
 //! The solver that the cases ask.
 
-use crate::solve::chosen_by;
 use crate::write::fill_answer_by;
 use resolvo::Solver;
 use resolvo_cases::answer::{Answer, Recorder};
@@ -21,15 +20,5 @@ impl SolverUnderTest for TriedSolver {
     ) -> R<()> {
         let mut solver = Solver::new(alloc, provider).with_activity_params(1_000_000, 950_000);
         fill_answer_by(alloc, &mut solver, asked, answer)
-    }
-
-    fn chosen<C: Drop, P: DependencyProvider<Cancel = C> + Drop>(
-        &self,
-        alloc: Global,
-        provider: P,
-        asked: Asked<'_, P::SolvableId>,
-    ) -> R<Option<Vec<P::SolvableId>>> {
-        let mut solver = Solver::new(alloc, provider);
-        chosen_by(alloc, &mut solver, asked)
     }
 }
