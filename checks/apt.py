@@ -22,12 +22,10 @@ from collections import Counter
 from dataclasses import dataclass
 from typing import Iterator
 
-HERE = os.path.dirname(os.path.abspath(__file__))
-TOP = os.path.dirname(HERE)
-PAIRS = int(os.environ.get("PAIRS", "10000"))
-sys.path.insert(0, TOP)
-
+from base import TOP, program_of
 from tools.deb822 import Fields, read_groups, read_list, split_records, version_key
+
+PAIRS = int(os.environ.get("PAIRS", "10000"))
 
 
 @dataclass
@@ -158,8 +156,7 @@ def solver_seconds(times: str) -> list[float]:
 
 def main() -> None:
     count, seed = (int(sys.argv[at]) if len(sys.argv) > at else default for at, default in ((1, 20), (2, 1)))
-    program = sys.argv[3] if len(sys.argv) > 3 else os.path.join(TOP, "crates/resolve/out/resolve")
-    environment = {**os.environ, "LC_ALL": "C", "RESOLVE": os.path.abspath(program)}
+    environment = {**os.environ, "LC_ALL": "C", "RESOLVE": program_of(sys.argv, 3) if count else ""}
     counts, owns, ours, index = Counter(), [], [], index_fields()
     check_order(index["Version"], PAIRS, seed)
     with tempfile.TemporaryDirectory() as folder:

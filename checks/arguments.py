@@ -9,8 +9,7 @@ import subprocess
 import sys
 import tempfile
 
-TOP = os.path.dirname(os.path.dirname(os.path.abspath(__file__)))
-PROGRAM = os.path.abspath(sys.argv[1]) if len(sys.argv) > 1 else os.path.join(TOP, "crates/resolve/out/resolve")
+from base import program_of
 
 TEXT_BOUND = 2**24
 INPUT_BOUND = 2**25
@@ -92,6 +91,7 @@ def inputs():
 
 
 def main():
+    program = program_of(sys.argv, 1)
     faults, count = [], 0
     with tempfile.TemporaryDirectory() as folder:
         write_files(os.fsencode(folder))
@@ -99,7 +99,7 @@ def main():
         asked += [(arguments, b"", wanted) for arguments, wanted in [*files(), *texts()]]
         asked += [([], given, wanted) for given, wanted in inputs()]
         for arguments, given, wanted in asked:
-            ended = subprocess.run([PROGRAM, *arguments], input=given, capture_output=True, cwd=folder, timeout=300)
+            ended = subprocess.run([program, *arguments], input=given, capture_output=True, cwd=folder, timeout=300)
             count += 1
             if (ended.returncode, ended.stdout) != wanted or ended.stderr:
                 told = [word[:40] for word in arguments], len(given)
@@ -108,4 +108,5 @@ def main():
     sys.exit(1 if faults else 0)
 
 
-main()
+if __name__ == "__main__":
+    main()

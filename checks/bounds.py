@@ -13,7 +13,8 @@ import sys
 import tempfile
 import time
 
-HERE = os.path.dirname(os.path.abspath(__file__))
+from base import PARTS, program_of, write_texts
+
 TEXT, INPUT, REPORT = 1 << 24, 1 << 25, 1 << 30
 NAMED = b"refused\nrequest line 1\nstep 1 need request line 1 case 1\nstep 2 derive [] by 1\n"
 # well above a power of two: while the buffer of a line grows, the old and the new one are held, which is less than this line
@@ -105,7 +106,7 @@ def ask(program, arguments, given=b""):
 
 
 def main():
-    program = sys.argv[1] if len(sys.argv) > 1 else os.path.join(HERE, "../crates/resolve/out/resolve")
+    program = program_of(sys.argv, 1)
     count, faults = 0, []
 
     def compare(name, found, wanted):
@@ -115,18 +116,13 @@ def main():
             faults.append(f"{name}: {found[0][:60]!r}, status {found[1]}")
 
     with tempfile.TemporaryDirectory() as folder:
-        paths = [os.path.join(folder, part) for part in ("catalogue", "request", "report")]
+        paths = [os.path.join(folder, part) for part in PARTS]
         for name, catalogue, request, *wanted in texts():
-            for path, text in zip(paths, (catalogue, request)):
-                with open(path, "wb") as file:
-                    file.write(text)
-            compare(name, ask(program, ["solve", *paths[:2]]), tuple(wanted))
+            compare(name, ask(program, ["solve", *write_texts(folder, (catalogue, request))]), tuple(wanted))
         for name, given, *wanted in inputs():
             compare(name, ask(program, [], given), tuple(wanted))
+        write_texts(folder, (b"", b"needs a\n"))
         for name, front, size, *wanted in reports() if "small" not in sys.argv[2:] else []:
-            for path, text in zip(paths, (b"", b"needs a\n")):
-                with open(path, "wb") as file:
-                    file.write(text)
             write_report(paths[2], front, size)
             found = ask(program, ["judge", *paths])
             print(f"{name}: {found[2]:.1f} s")
@@ -135,9 +131,6 @@ def main():
                 held = peak(program, ["judge", *paths])[1]
                 print(f"{name}, of lines of a million bytes: {held} bytes are held")
                 compare(name, (b"held" if held < BESIDE else b"more", 0), (b"held", 0))
-        for path, text in zip(paths, (b"", b"needs a\n")):
-            with open(path, "wb") as file:
-                file.write(text)
         message(paths[2])
         output, held = peak(program, ["judge", *paths])
         print(f"a line of {LINE} bytes in a message: {held} bytes are held")

@@ -10,7 +10,8 @@ import subprocess
 import sys
 import tempfile
 
-TOP = os.path.dirname(os.path.dirname(os.path.abspath(__file__)))
+from base import TOP
+
 LIBRARIES = ("resolvo_pool_core resolvo_pool resolvo_store_core resolvo_store resolvo_packages resolvo_turn resolvo_proof resolvo "
              "resolvo_text resolvo_catalogue_core resolvo_catalogue resolvo_judge resolvo_test_providers")
 

@@ -17,9 +17,7 @@ import tempfile
 import tomllib
 from collections import Counter
 
-HERE = os.path.dirname(os.path.abspath(__file__))
-sys.path[:0] = [os.path.join(HERE, "..")]
-
+from base import fail, program_of
 from tools import texts
 from tools.cargo import index_place
 from tools.semver import read_req, read_semver
@@ -30,10 +28,6 @@ POOL = ["0.0.3", "0.1.0", "0.1.4", "0.2.0", "1.0.0-a.1", "1.0.0", "1.0.5", "1.2.
 REQS = ["*", "*", "1", "1", "1", "^1.2", "~1.0", "0.1", "0.1", "0.2", "2", "2", ">=0.1, <2", ">=0.2", ">=1, <=2.0", "<1", "=1.0.5", "1.*", "1.0.0-a", ">=2.0.0-rc", ">1"]
 FEATURES = ["default", "x", "y"]
 PAIRS = int(os.environ.get("PAIRS", "10000"))
-
-
-def fail(what, *details):
-    sys.exit("\n".join([what, *map(str, details)]))
 
 
 def some_dependency(rng, at):
@@ -234,12 +228,12 @@ def check_matcher(rng, program, counts):
 def main():
     word = sys.argv[1] if len(sys.argv) > 1 else "300"
     rng = random.Random(int(sys.argv[2]) if len(sys.argv) > 2 else 1)
-    program = sys.argv[3] if len(sys.argv) > 3 else os.path.join(HERE, "../crates/resolve/out/resolve")
+    program = None if word == "match" else program_of(sys.argv, 3)
     counts = Counter()
     for _ in range(1 if word == "match" else int(word)):
-        (check_matcher if word == "match" else check_registry)(rng, os.path.abspath(program), counts)
+        (check_matcher if word == "match" else check_registry)(rng, program, counts)
     while word == "match" and sum(counts.values()) < PAIRS:
-        check_picks(rng, os.path.abspath(program), counts)
+        check_picks(rng, program, counts)
     print(f"{word}: " + ", ".join(f"{n} {what}" for what, n in sorted(counts.items())))
 
 

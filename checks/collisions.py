@@ -12,7 +12,6 @@ follow. All names that begin so have one hash. A number has four bytes; those wh
 are tried out.
 """
 import itertools
-import os
 import random
 import resource
 import string
@@ -20,7 +19,8 @@ import subprocess
 import sys
 import tempfile
 
-HERE = os.path.dirname(os.path.abspath(__file__))
+from base import program_of, write_texts
+
 WORD = string.ascii_letters + string.digits + "_"
 FRONT = "a8FjWKDhLR0nsXBkc_ReVa44"
 MASK = (1 << 64) - 1
@@ -150,11 +150,7 @@ KINDS = (packages, specs, words, versions, spans, sets, places, installed, judge
 def seconds(program, lines, request, *reports):
     """Processor seconds, the least of three runs. A report is judged, other texts are solved."""
     with tempfile.TemporaryDirectory() as folder:
-        given = ["".join(lines), request, *reports]
-        paths = [os.path.join(folder, part) for part in ("catalogue", "request", "report")[:len(given)]]
-        for path, text in zip(paths, given):
-            with open(path, "w") as file:
-                file.write(text)
+        paths = write_texts(folder, ["".join(lines), request, *reports])
         verb = "judge" if reports else "solve"
         found = []
         for _ in range(3):
@@ -168,7 +164,7 @@ def seconds(program, lines, request, *reports):
 
 
 def main():
-    program = sys.argv[1] if len(sys.argv) > 1 else os.path.join(HERE, "../crates/resolve/out/resolve")
+    program = program_of(sys.argv, 1)
     failed = False
     for size in [int(size) for size in sys.argv[2:]] or [1 << 18, 1 << 20, 1 << 22, 1 << 24]:
         for kind in KINDS:

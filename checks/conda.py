@@ -16,9 +16,7 @@ import sys
 import tempfile
 from collections import Counter
 
-HERE = os.path.dirname(os.path.abspath(__file__))
-sys.path[:0] = [os.path.join(HERE, "..")]
-
+from base import fail, program_of
 from tools import texts
 from tools.matchspec import read_matchspec, read_version
 from tools.tests.base import run
@@ -28,10 +26,6 @@ POOL = ["0.9", "1.0", "1.0.1", "1.0a1", "1.0rc2", "1.0.post1", "1.0.dev3", "1.1"
 PAIRS = int(os.environ.get("PAIRS", "10000"))
 BUILDS = ["0", "py27_0", "py38_0", "py38_1", "h1234_1"]
 SPECS = [*[""] * 6, *[" >={}"] * 5, " <{}", " <={}", " >{}", " !={}", " =={}", " {}", " {}.*", " {}*", " >={},<{}", " {}|{}", " *", " <{}|>{}", " >={} py38*", " * py38_0", " {} py27_0", " {}.* *_1"]
-
-
-def fail(what, *details):
-    sys.exit("\n".join([what, *map(str, details)]))
 
 
 def some_spec(rng, name=None):
@@ -168,10 +162,10 @@ def check_picks(rng, counts):
 def main():
     word = sys.argv[1] if len(sys.argv) > 1 else "300"
     rng = random.Random(int(sys.argv[2]) if len(sys.argv) > 2 else 1)
-    program = sys.argv[3] if len(sys.argv) > 3 else os.path.join(HERE, "../crates/resolve/out/resolve")
+    program = None if word == "match" else program_of(sys.argv, 3)
     counts = Counter()
     for _ in range(4 if word == "match" else int(word)):
-        (check_matcher if word == "match" else check_repodata)(rng, os.path.abspath(program), counts)
+        (check_matcher if word == "match" else check_repodata)(rng, program, counts)
     while word == "match" and sum(counts.values()) < PAIRS:
         check_picks(rng, counts)
     print(f"{word}: " + ", ".join(f"{n} {what}" for what, n in sorted(counts.items())))

@@ -14,8 +14,8 @@ import sys
 import requests_kept
 import rows
 import store_calls
+from base import TOP
 
-TOP = os.path.dirname(os.path.dirname(os.path.abspath(__file__)))
 PAGE = os.path.join(TOP, "docs/COVERAGE.md")
 EDITS = os.path.join(TOP, "docs/EDITS.md")
 FROM = "## Rows\n"

@@ -21,19 +21,13 @@ import tempfile
 import time
 from collections import Counter
 
-HERE = os.path.dirname(os.path.abspath(__file__))
-sys.path[:0] = [os.path.join(HERE, "..")]
-
+from base import fail, program_of
 from tools.tests.base import run
 
 ASPCUD, CUDF_CHECK = os.environ.get("ASPCUD", "aspcud"), os.environ.get("CUDF_CHECK", "cudf-check")
 NAMES = ["a", "b-2", "lib%3aamd64", "c++", "D.x/y", "e@(f)"]
 FEATURES = ["feat", "g%5fh", "a", "c++"]
 SIGNS = ["=", "!=", ">=", "<=", ">", "<"]
-
-
-def fail(what, *details):
-    sys.exit("\n".join([what, *map(str, details)]))
 
 
 # ---- documents
@@ -196,7 +190,7 @@ def check_size(rng, program, is_general):
 def main():
     word = sys.argv[1] if len(sys.argv) > 1 else "1000"
     rng = random.Random(int(sys.argv[2]) if len(sys.argv) > 2 else 1)
-    program = os.path.abspath(sys.argv[3] if len(sys.argv) > 3 else os.path.join(HERE, "../crates/resolve/out/resolve"))
+    program = program_of(sys.argv, 3)
     if word == "size":
         return [check_size(rng, program, is_general) for is_general in (False, True)]
     counts = Counter()

@@ -21,22 +21,16 @@ import tempfile
 from collections import Counter
 from unittest import mock
 
-HERE = os.path.dirname(os.path.abspath(__file__))
-sys.path[:0] = [os.path.join(HERE, ".."), HERE]
-
 import cargo
 import conda
 import cudf
 import pypi
+from base import fail
 from tools import apt_solver, texts
 from tools.tests.base import Output, run
 
 SAID = re.compile(r"tools: (?P<file>[^:\n]+): (?:line (?P<line>\d+): )?[^\n]+\n")
 ENVIRONMENT = {"python_full_version": "3.11.7", "python_version": "3.11", "sys_platform": "linux", "os_name": "posix"}
-
-
-def fail(what, *details):
-    sys.exit("\n".join([what, *map(str, details)]))
 
 
 # ---- good inputs

@@ -21,14 +21,12 @@ import sys
 from collections import Counter
 from typing import Dict, Iterator, List, Optional, Set, Tuple
 
-ROOT = os.path.dirname(os.path.dirname(os.path.abspath(__file__)))
-sys.path.insert(0, ROOT)
-
-from plain_report import solved  # noqa: E402
-from rows import read_all  # noqa: E402
-from tools.front import main as run_tools  # noqa: E402
-from tools.front import make_parser  # noqa: E402
-from tools.texts import report_text  # noqa: E402
+from base import TOP as ROOT
+from plain_report import solved
+from rows import read_all
+from tools.front import main as run_tools
+from tools.front import make_parser
+from tools.texts import report_text
 
 EXAMPLE = "checks/calls/example.rt.txt"
 PAGES = ("README.md", "CONTRIBUTING.md", "docs/*.md", "crates/*/README.md", "bindings/*/README.md")

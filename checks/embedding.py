@@ -19,21 +19,14 @@ import subprocess
 import sys
 import tempfile
 
-HERE = os.path.dirname(os.path.abspath(__file__))
-TOP = os.path.dirname(HERE)
-sys.path[:0] = [os.path.join(TOP, "bindings/python")]
+from base import CHECKS, EXAMPLES, TOP, ask, must, program_of
+from rows import all_rows
 
-from rows import all_rows  # noqa: E402
+sys.path.insert(0, os.path.join(TOP, "bindings/python"))
 import resolve  # noqa: E402
 
 ENDINGS = {b"cannot read\n": 3, b"too long\n": 4, b"no memory\n": 5, b"no ids\n": 6}
 SMALL = 3_000
-EXAMPLES = [("app", "app"), ("app", "conflict"), ("locked", "locked"), ("majors", "majors"), ("wishes", "wishes")]
-
-
-def must(test, what, *details):
-    if not test:
-        sys.exit("\n".join([what, *map(repr, details)]))
 
 
 def records(cases):
@@ -56,15 +49,8 @@ def answers(output):
 
 
 def program_answer(program, folder, texts):
-    paths = []
-    for number, text in enumerate(texts):
-        paths.append(os.path.join(folder, str(number)))
-        with open(paths[-1], "wb") as file:
-            file.write(text)
-    ended = subprocess.run([program, "solve" if len(texts) == 2 else "judge", *paths], stdout=subprocess.PIPE, check=False)
-    if ended.stdout in ENDINGS:
-        return ENDINGS[ended.stdout], b""
-    return ended.returncode, ended.stdout
+    status, output = ask(program, folder, texts)
+    return (ENDINGS[output], b"") if output in ENDINGS else (status, output)
 
 
 def python_answer(backend, texts):
@@ -87,7 +73,7 @@ def run(command, cases, *words):
 def compiled(archives, name, folder, *flags):
     path = os.path.join(folder, name)
     wrap = "-Wl,--wrap=malloc,--wrap=realloc,--wrap=free"
-    words = ["-O1", "-g", "-pthread", "-I", os.path.join(TOP, "bindings/c"), "-o", path, os.path.join(HERE, "embedding.c"), *flags]
+    words = ["-O1", "-g", "-pthread", "-I", os.path.join(TOP, "bindings/c"), "-o", path, os.path.join(CHECKS, "embedding.c"), *flags]
     subprocess.run(["cc", *words, wrap, os.path.join(archives, f"lib{name}.a")], check=True)
     return path
 
@@ -227,7 +213,7 @@ def print_times(program, archives, folder):
 
 def main():
     words = [word for word in sys.argv[1:] if word != "--times"]
-    program = os.path.abspath(words[0] if words else os.path.join(TOP, "crates/resolve/out/resolve"))
+    program = program_of(words, 0)
     archives = os.path.abspath(words[1] if len(words) > 1 else os.path.join(TOP, "out/embedding"))
     with tempfile.TemporaryDirectory() as folder:
         if "--times" in sys.argv:

@@ -17,12 +17,12 @@ import sys
 import tempfile
 import time
 
+from base import ask, program_of
 from judging import Prover, damaged
 from plain_judge import judge
 from solving import generated_texts
 from tools import texts
 
-HERE = os.path.dirname(os.path.abspath(__file__))
 SECONDS = 10
 # of more sets than these the verdict isn't compared
 MOST_SETS = 20_000
@@ -153,17 +153,12 @@ class Session:
         self.findings += 1
         print(f"{name}: {what}", flush=True)
 
-    def ask(self, command, given):
+    def ask(self, given):
         """Status and output; the status is None after ten seconds."""
-        paths = [os.path.join(self.work, part) for part in ("catalogue", "request", "report")][:len(given)]
-        for path, text in zip(paths, given):
-            with open(path, "wb") as file:
-                file.write(text)
         try:
-            ended = subprocess.run([self.program, command, *paths], capture_output=True, timeout=SECONDS)
+            return ask(self.program, self.work, given, timeout=SECONDS)
         except subprocess.TimeoutExpired:
             return None, b""
-        return ended.returncode, ended.stdout
 
     def is_wrong(self, status, sections):
         """Whether a run didn't end by itself in time."""
@@ -175,7 +170,7 @@ class Session:
     def solve(self, plain):
         """Compares the answer of `solve`; the report that it wrote, if it did."""
         inputs = {"catalogue": plain.catalogue, "request": plain.request}
-        status, output = self.ask("solve", [plain.catalogue, plain.request])
+        status, output = self.ask([plain.catalogue, plain.request])
         if plain.fault is not None:
             self.counts["faulty"] += 1
             if (status, output) != (2, plain.fault):
@@ -197,7 +192,7 @@ class Session:
     def judge(self, plain, report):
         self.counts["judged"] += 1
         wanted = plain.verdict(report)
-        status, output = self.ask("judge", [plain.catalogue, plain.request, report])
+        status, output = self.ask([plain.catalogue, plain.request, report])
         sections = {"catalogue": plain.catalogue, "request": plain.request, "report": report, "judge": wanted}
         if not self.is_wrong(status, sections) and (status, output) != (wanted != b"yes\n", wanted):
             self.found(f"status {status}, {output[:80]!r}", sections)
@@ -221,10 +216,8 @@ class Session:
 def main():
     minutes = float(sys.argv[1]) if len(sys.argv) > 1 else 1.0
     folder = sys.argv[2] if len(sys.argv) > 2 else "/tmp/resolve-found"
-    program = sys.argv[3] if len(sys.argv) > 3 else os.path.join(HERE, "../crates/resolve/out/resolve")
+    program = program_of(sys.argv, 3)
     seed = int(sys.argv[4]) if len(sys.argv) > 4 else int(time.time())
-    if not os.path.exists(program):
-        sys.exit(f"{program} isn't there: build it, or name another one")
     rng, end = random.Random(seed), time.time() + minutes * 60
     with tempfile.TemporaryDirectory() as work:
         session = Session(program, folder, work)

@@ -7,17 +7,15 @@ plain judge alone is run. Both must accept each undamaged report, and give the s
 packages are marked `many`, and an install report may have several versions of one.
 """
 import itertools
-import os
 import random
-import subprocess
 import sys
 import tempfile
 
+from base import ask, program_of
 from plain_judge import barred_by, holds, judge, obeys
 from tools import texts
 from tools.texts import cases
 
-HERE = os.path.dirname(os.path.abspath(__file__))
 PACKAGES = ["a", "b", "c"]
 
 
@@ -316,23 +314,18 @@ def main():
     given = [word for word in sys.argv[1:] if word != "--many"]
     reports = int(given[0]) if given else 2000
     damages = int(given[1]) if len(given) > 1 else 20000
-    program = given[2] if len(given) > 2 else os.path.join(HERE, "../crates/resolve/out/resolve")
+    program = program_of(given, 2, or_none=True)
     rng = random.Random(1)
     counts = {"install": 0, "refused": 0, "yes": 0, "no": 0}
     with tempfile.TemporaryDirectory() as folder:
-        paths = [os.path.join(folder, part) for part in ("catalogue", "request", "report")]
-
         def compare(texts):
-            for path, text in zip(paths, texts):
-                with open(path, "wb") as out:
-                    out.write(text)
             n = judge(*texts)
             if program == "-":
                 return n
-            answer = subprocess.run([program, "judge", *paths], capture_output=True)
-            want = (b"yes\n", 0) if n == 0 else (b"no line %d\n" % n, 1)
-            if (answer.stdout, answer.returncode) != want:
-                sys.exit(f"{texts!r}: the program says {answer.stdout!r}, the plain judge {want[0]!r}")
+            answer = ask(program, folder, texts)
+            want = (0, b"yes\n") if n == 0 else (1, b"no line %d\n" % n)
+            if answer != want:
+                sys.exit(f"{texts!r}: the program says {answer[1]!r} with status {answer[0]}, the plain judge {want[1]!r}")
             return n
 
         for i in range(reports):

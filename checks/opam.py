@@ -11,8 +11,9 @@ import subprocess
 import sys
 import tempfile
 
-HERE = os.path.dirname(os.path.abspath(__file__))
-TOOLS = os.path.join(os.path.dirname(HERE), "tools", "resolve-tools")
+from base import TOP, fail, program_of
+
+TOOLS = os.path.join(TOP, "tools", "resolve-tools")
 REPOSITORY = {
     "lib_x.1.0": "", "lib_x.1.1": 'depends: [ "base-z" ]', "lib_x.2.0": 'conflicts: [ "other" ]', "base-z.1": "",
     "other.1.0": 'depends: [ "lib_x" {< "2"} ]', "app.1.0": 'depends: [ "lib_x" {>= "1.1"} "other" ]',
@@ -32,10 +33,6 @@ STANZAS = [
     ("app", "1.0", "Depends: lib (>= 2), mta"), ("lib", "1.0", "Installed: yes"), ("lib", "2.0", "Breaks: old"), ("exim", "1", "Provides: mta"),
     ("old", "1", "Installed: yes"), ("other", "3", "Installed: yes"),
 ]
-
-
-def fail(what, *details):
-    sys.exit("\n".join([what, *map(str, details)]))
 
 
 # ---- opam
@@ -119,8 +116,7 @@ def check_apt(folder):
 
 
 def main():
-    program = sys.argv[1] if len(sys.argv) > 1 else os.path.join(os.path.dirname(HERE), "crates/resolve/out/resolve")
-    os.environ["RESOLVE"] = os.path.abspath(program)
+    os.environ["RESOLVE"] = program_of(sys.argv, 1)
     with tempfile.TemporaryDirectory() as folder:
         check_apt(folder)
         check_opam(folder)

@@ -11,7 +11,8 @@ import subprocess
 import sys
 import tempfile
 
-from calls import TOP, copy_with
+from base import TOP
+from calls import copy_with
 
 LIBRARIES = "resolvo_pool_core resolvo_store_core resolvo_decide"
 

@@ -1,13 +1,10 @@
 """What the plain search is made of: its options, what a clause states, and the lines of both texts by what they belong to."""
 from __future__ import annotations
 
-import os
-import sys
 from dataclasses import dataclass, field
 from typing import Optional, Union
 
-sys.path.insert(0, os.path.join(os.path.dirname(os.path.abspath(__file__)), ".."))
-
+import base  # noqa: F401
 from tools.texts import AnyAtom, BitAtom, Catalogue, Condition, ExcludeLine, FavourLine, LimitsLine, Literal, LockLine
 from tools.texts import MatchesAtom, NeedsLine, OutsideAtom, Request, SharedAtom, Spec, UnknownLine, Version, WishLine
 

@@ -19,12 +19,10 @@ import tempfile
 import zipfile
 from collections import Counter
 
-HERE = os.path.dirname(os.path.abspath(__file__))
-sys.path[:0] = [os.path.join(HERE, "..")]
-
 from pip._internal.cli.main import main as pip_main
 from pip._internal.commands import create_command
 
+from base import fail, program_of
 from tools import texts
 from tools.pypi import PypiIndex, canonical, read_environment, requirements as requirement_texts, versions
 from tools.tests.base import run
@@ -36,10 +34,6 @@ MARKERS = ['python_version >= "3.8"', 'python_version < "3"', 'sys_platform == "
 PIP = ["install", "--isolated", "--disable-pip-version-check", "--no-cache-dir", "--dry-run", "--ignore-installed", "--no-index", "--quiet"]
 PAIRS = int(os.environ.get("PAIRS", "10000"))
 REFUSALS = ("ResolutionImpossible", "No matching distribution found", "Could not find a version")
-
-
-def fail(what, *details):
-    sys.exit("\n".join([what, *map(str, details)]))
 
 
 def some_specifier(rng):
@@ -243,13 +237,13 @@ def check_picks(rng, counts):
 def main():
     word = sys.argv[1] if len(sys.argv) > 1 else "300"
     rng = random.Random(int(sys.argv[2]) if len(sys.argv) > 2 else 1)
-    program = sys.argv[3] if len(sys.argv) > 3 else os.path.join(HERE, "../crates/resolve/out/resolve")
+    program = None if word == "match" else program_of(sys.argv, 3)
     counts = Counter()
     create_command("install")
     while word == "match" and sum(counts.values()) < PAIRS:
         check_picks(rng, counts)
     for _ in range(0 if word == "match" else int(word)):
-        check_index(rng, os.path.abspath(program), counts)
+        check_index(rng, program, counts)
     print((f"{word}: " if word == "match" else f"{word} indexes, two requests each: ") + ", ".join(f"{n} {what}" for what, n in sorted(counts.items())))
 
 

@@ -15,11 +15,8 @@ import sys
 import tempfile
 import time
 
-HERE = os.path.dirname(os.path.abspath(__file__))
-TOP = os.path.dirname(HERE)
-
-from embedding import must  # noqa: E402
-from rows import all_rows  # noqa: E402
+from base import ask, must, program_of
+from rows import all_rows
 
 EXAMPLE = re.compile(r"^\$ resolve solve (\S+) (\S+)\n((?:[^$`].*\n)*)", re.M)
 
@@ -48,21 +45,10 @@ class Jail:
         return ended.returncode, ended.stdout
 
 
-def printed(program, folder, texts):
-    """Status and all that is printed."""
-    paths = []
-    for number, text in enumerate(texts):
-        paths.append(os.path.join(folder, str(number)))
-        with open(paths[-1], "wb") as file:
-            file.write(text)
-    ended = subprocess.run([program, "solve" if len(texts) == 2 else "judge", *paths], stdout=subprocess.PIPE, check=False)
-    return ended.returncode, ended.stdout
-
-
 def main():
     if len(sys.argv) < 2:
         sys.exit(__doc__)
-    program = os.path.abspath(sys.argv[2] if len(sys.argv) > 2 else os.path.join(TOP, "crates/resolve/out/resolve"))
+    program = program_of(sys.argv, 2)
     if len(sys.argv) > 3:
         must(filecmp.cmp(sys.argv[1], sys.argv[3], shallow=False), "two runs gave two releases", *sys.argv[1:4:2])
         print("another run gave the same bytes")
@@ -78,7 +64,7 @@ def main():
         subprocess.run(["sha256sum", "--check", "--quiet", "SHA256SUMS"], cwd=os.path.join(folder, jail.release), check=True)
         count = 0
         for name, texts in all_rows():
-            right = printed(program, texts_folder, texts)
+            right = ask(program, texts_folder, texts)
             got = jail.answer(texts)
             must(right == got, name, right, got)
             count += 1

@@ -84,9 +84,9 @@ def case_of_seed(seed):
 
 def fault_of(case):
     """What is wrong with an answer, beside all sets; None where nothing is."""
-    sets = [set(found) for found in Prover(case.sections["catalogue"].encode(), case.sections["request"].encode()).sets()]
+    sets = [set(found) for found in Prover(text_of(case.sections["catalogue"]).encode(), text_of(case.sections["request"]).encode()).sets()]
     for name in ("answer", "answer without hint"):
-        lines = case.sections.get(name, case.sections["answer"]).splitlines()
+        lines = case.sections.get(name, case.sections["answer"])
         words = [line.split() for line in lines if not line.endswith(("wait", "waits"))]
         chosen = {Version(name, int(number)) for name, number in (it for it in words if len(it) == 2)}
         if lines == ["refused"] and sets or lines != ["refused"] and chosen not in sets:
@@ -99,7 +99,7 @@ def faults(by_hand, of_seeds):
     if [case.text for case in of_seeds] != [case_of_seed(seed) for seed in range(SEEDS)]:
         yield "the generated cases aren't those of their seeds; run checks/request_pairs.py --write"
     yield from filter(None, map(fault_of, of_seeds))
-    solved = sum(case.sections["answer"] != "refused\n" for case in of_seeds)
+    solved = sum(case.sections["answer"] != ["refused"] for case in of_seeds)
     if not SEEDS / 4 < solved < SEEDS * 3 / 4:
         yield f"{solved} of {SEEDS} pairs have a solution"
     with open(STDOUT, encoding="utf-8") as file:

@@ -2,27 +2,33 @@
 import os
 from dataclasses import dataclass
 
-FILE = os.path.join(os.path.dirname(os.path.abspath(__file__)), "../crates/resolvo_rows/stdin")
+from base import TOP
+
+FILE = os.path.join(TOP, "crates/resolvo_rows/stdin")
 
 
 @dataclass
 class Case:
-    """A case: its title, the texts of its sections by their names, and its lines."""
+    """A case: its title, the lines of its sections by their names, and its text."""
+
     title: str
-    sections: dict
+    sections: dict[str, list[str]]
     text: str
 
 
-def case_of(text):
-    title, *parts = text.split("== ")
-    return Case(title.rstrip("\n"), dict(part.split("\n", 1) for part in parts), "# " + text)
+def case_of(block: str) -> Case:
+    """A case from the text behind its `# `."""
+    title, *parts = block.split("\n== ")
+    sections = {name: [line for line in lines if line] for name, *lines in (part.split("\n") for part in parts)}
+    return Case(title, sections, f"# {block}\n")
 
 
-def cases():
+def cases() -> list[Case]:
+    """The cases of the file."""
     with open(FILE, encoding="utf-8") as file:
-        return [case_of(text) for text in file.read().split("# ")[1:]]
+        return [case_of(block) for block in file.read().removesuffix("\n").removeprefix("# ").split("\n# ")]
 
 
-def is_of_seed(case):
+def is_of_seed(case: Case) -> bool:
     """Whether request_pairs.py wrote the case."""
     return case.title.startswith("pair of seed ")

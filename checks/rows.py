@@ -9,15 +9,14 @@ is also given to it, as files, and its output and status are compared with what 
 import glob
 import os
 import re
-import subprocess
 import sys
 import tempfile
 
+from base import PARTS, TOP, ask, program_of
 from plain_judge import judge
 from tools import texts
 
-DATA = os.path.join(os.path.dirname(os.path.abspath(__file__)), "../crates/resolve_rows/data")
-INPUTS = ["catalogue", "request", "report"]
+DATA = os.path.join(TOP, "crates/resolve_rows/data")
 ESCAPE = re.compile(rb"\\x([0-9a-f]{2})|\\\*([0-9]+);|\\(.)|(.)", re.DOTALL)
 LETTERS = {b"n": b"\n", b"r": b"\r", b"t": b"\t", b"\\": b"\\"}
 
@@ -30,6 +29,10 @@ class Row:
 
     def text(self, section):
         return self.sections.get(section, b"")
+
+    def texts(self):
+        """A catalogue, a request, and a report where the row is judged."""
+        return tuple(self.text(name) for name in PARTS if name != "report" or name in self.sections)
 
     def __str__(self):
         return f"{self.name}, row {self.number}"
@@ -81,7 +84,7 @@ def read_all(folder=DATA):
 def all_rows():
     """Each row by its name, with its texts: a catalogue, a request, and a report where the row is judged."""
     for row in read_all():
-        yield str(row), tuple(row.text(name) for name in INPUTS if name != "report" or name in row.sections)
+        yield str(row), row.texts()
 
 
 def first_fault(row):
@@ -134,15 +137,10 @@ def asked(program, row, folder):
     """What the row expects otherwise than the program; None where they agree, or where no command shows it."""
     if "reads" in row.sections:
         return None
-    given = [part for part in INPUTS if part != "report" or part in row.sections]
-    for part in given:
-        with open(os.path.join(folder, part), "wb") as file:
-            file.write(row.text(part))
-    command = "judge" if "report" in row.sections else "solve"
-    ended = subprocess.run([program, command, *(os.path.join(folder, part) for part in given)], capture_output=True)
+    status, output = ask(program, folder, row.texts())
     for name, wanted in row.sections.items():
-        if name not in INPUTS and came(name, ended.stdout, ended.returncode, wanted) != wanted:
-            return f"{name} is {came(name, ended.stdout, ended.returncode, wanted)!r}"
+        if name not in PARTS and came(name, output, status, wanted) != wanted:
+            return f"{name} is {came(name, output, status, wanted)!r}"
     return None
 
 
@@ -150,8 +148,9 @@ def main():
     rows = read_all(sys.argv[1] if len(sys.argv) > 1 else DATA)
     found = [(row, difference(row)) for row in rows if max(map(len, row.sections.values())) < 1_000_000]
     if len(sys.argv) > 2:
+        program = program_of(sys.argv, 2)
         with tempfile.TemporaryDirectory() as folder:
-            found += [(row, asked(sys.argv[2], row, folder)) for row in rows]
+            found += [(row, asked(program, row, folder)) for row in rows]
     for row, line in found:
         if line:
             print(f"{row}: {line}")

@@ -16,12 +16,13 @@ import argparse
 import dataclasses
 import os
 import random
-import subprocess
 import sys
 import tempfile
 from typing import Iterator, Optional
 
+import requests_kept
 import rows
+from base import CHECKS, PROGRAM, ask
 from plain_message import message
 from plain_report import report
 from plain_search import Facts, Options, Outcome, Turns
@@ -29,8 +30,7 @@ from solving import generated_texts
 from tools import texts
 from tools.texts import Catalogue, Install, LeftOut, Refused, Report, Request
 
-HERE = os.path.dirname(os.path.abspath(__file__))
-KEPT = os.path.join(HERE, "search")
+KEPT = os.path.join(CHECKS, "search")
 OPTIONS = os.path.join(KEPT, "options")
 Pair = tuple[str, str]
 PARTS = ("verdict", "entries", "left out", "named", "message", "steps")
@@ -178,12 +178,7 @@ def pair_of(row: rows.Row) -> Pair:
 
 def answered(program: str, pair: Pair, folder: str) -> Report:
     """What the program answers."""
-    paths = [os.path.join(folder, part) for part in ("catalogue", "request")]
-    for path, text in zip(paths, pair):
-        with open(path, "w") as file:
-            file.write(text)
-    ended = subprocess.run([program, "solve", *paths], capture_output=True, timeout=600)
-    return texts.read_report(ended.stdout)
+    return texts.read_report(ask(program, folder, pair, timeout=600)[1])
 
 
 def parts_of(value: Report) -> dict[str, object]:
@@ -357,18 +352,7 @@ def unmet(row: rows.Row) -> list[str]:
     value = report(*values_of(pair_of(row)))
     output, status = texts.report_text(value), 0 if isinstance(value, Install) else 1
     return [f"{row}: {name}" for name, wanted in row.sections.items()
-            if name not in rows.INPUTS and name != "fault" and rows.came(name, output, status, wanted) != wanted]
-
-
-def solver_cases() -> Iterator[tuple[str, dict[str, list[str]]]]:
-    """The titles and sections of the cases of crates/resolvo_rows."""
-    with open(os.path.join(HERE, "../crates/resolvo_rows/stdin")) as file:
-        blocks = file.read().removeprefix("# ").split("\n# ")
-    for block in blocks:
-        title, *parts = block.split("\n== ")
-        sections = {part.split("\n")[0]: [line for line in part.split("\n")[1:] if line] for part in parts}
-        if "answer" in sections:
-            yield title, sections
+            if name not in rows.PARTS and name != "fault" and rows.came(name, output, status, wanted) != wanted]
 
 
 def case_answer(turns: Turns, outcome: Outcome, counts_waiting: bool) -> list[str]:
@@ -398,7 +382,7 @@ def unmet_case(title: str, sections: dict[str, list[str]]) -> list[str]:
 
 def run_rows() -> int:
     """Runs the plain search over the rows of the gate; the status."""
-    told = [unmet(row) for row in solved_rows()] + [unmet_case(title, sections) for title, sections in solver_cases()]
+    told = [unmet(row) for row in solved_rows()] + [unmet_case(case.title, case.sections) for case in requests_kept.cases() if "answer" in case.sections]
     faults = [line for lines in told for line in lines]
     print(f"{len(told)} rows, {len(faults)} sections otherwise")
     print("".join(f"    {line}\n" for line in faults), end="")
@@ -413,7 +397,7 @@ def main() -> int:
     parser.add_argument("--marked", action="store_true")
     parser.add_argument("--kept", action="store_true")
     parser.add_argument("--rows", action="store_true")
-    parser.add_argument("--program", default=os.path.join(HERE, "../crates/resolve/out/resolve"))
+    parser.add_argument("--program", default=PROGRAM)
     arguments = parser.parse_args()
     if arguments.rows:
         return run_rows()

@@ -22,21 +22,19 @@ from functools import partial
 from pathlib import Path
 from typing import Callable, Iterable, Iterator, Optional
 
-HERE = Path(__file__).resolve().parent
-sys.path.insert(0, str(HERE.parent))
-sys.path.append(str(HERE.parent / "bench"))
-
+from base import EXAMPLES, TOP, ask, program_of
 from judging import Prover, some_texts
 from lrat_checker import Refused, check
 from plain_judge import obeys
-from problem import Problem, any_of
-from shapes import pairs, pigeons
 from tools.cnf import Cnf, Ladder, clean
 from tools.lrat import Export, export
 from tools.texts import Atom, BitAtom, Catalogue, Install, LeftOut, Report, Request, Step, Version
 from tools.texts import read_catalogue, read_report, read_request
 
-EXAMPLES = [("app", "app"), ("app", "conflict"), ("locked", "locked"), ("majors", "majors"), ("wishes", "wishes")]
+sys.path.append(os.path.join(TOP, "bench"))
+from problem import Problem, any_of  # noqa: E402
+from shapes import pairs, pigeons, refused_chain  # noqa: E402
+
 FAULTS = ("a lost clause", "a turned sign", "another bit")
 
 
@@ -148,7 +146,7 @@ def kind_of(step: Step) -> str:
 
 def examples() -> Iterator[Texts]:
     """Those of examples/."""
-    folder = HERE.parent / "examples"
+    folder = Path(TOP) / "examples"
     for catalogue, name in EXAMPLES:
         paths = (folder / f"{catalogue}.catalogue", folder / f"{name}.request", folder / f"{name}.report")
         yield read_texts(f"examples/{name}", *(path.read_bytes() for path in paths))
@@ -156,10 +154,7 @@ def examples() -> Iterator[Texts]:
 
 def solved(program: str, folder: Path, texts: tuple[bytes, bytes]) -> bytes:
     """The program's report."""
-    paths = [folder / "catalogue", folder / "request"]
-    for path, text in zip(paths, texts):
-        path.write_bytes(text)
-    return subprocess.run([program, "solve", *paths], capture_output=True).stdout
+    return ask(program, folder, texts)[1]
 
 
 def generated(count: int, prover: Callable[[tuple[bytes, bytes]], bytes]) -> Iterator[Texts]:
@@ -183,15 +178,6 @@ def plain_report(rng: random.Random, texts: tuple[bytes, bytes]) -> bytes:
 def plain_refusal(rng: random.Random, texts: tuple[bytes, bytes]) -> bytes:
     """The plain prover's report of texts that are known to be refused."""
     return Prover(*texts).refuse(rng).encode()
-
-
-def broken_chain(length: int) -> Problem:
-    """Packages that need one another in turn, and the last of them one that isn't listed."""
-    problem = Problem()
-    for k in range(length):
-        problem.version(f"p{k}", 1, [any_of(f"p{k + 1}")])
-    problem.ask(any_of("p0"))
-    return problem
 
 
 def halves(versions: int) -> Problem:
@@ -222,7 +208,7 @@ LARGE = {
     "chain": (10, 1000), "pairs": (10, 500), "pigeons": (2, 4, 6, 8), "halves": (10, 64, 66, 300), "limits": (20, 300)
 }
 FAMILIES: dict[str, Callable[[int], Problem]] = {
-    "chain": broken_chain, "pairs": partial(pairs(first_needs_too=True), _seed=1), "pigeons": partial(pigeons, _seed=1),
+    "chain": partial(refused_chain, _seed=1), "pairs": partial(pairs(first_needs_too=True), _seed=1), "pigeons": partial(pigeons, _seed=1),
     "halves": halves, "limits": limits,
 }
 
@@ -401,9 +387,7 @@ def run_program(count: int, program: str, folder: Path, checkers: Checkers) -> N
 def main() -> None:
     given = [word for word in sys.argv[1:] if word != "--many"]
     count = int(given[0]) if given else 200
-    program = given[1] if len(given) > 1 else str(HERE.parent / "crates/resolve/out/resolve")
-    if program != "-" and not os.access(program, os.X_OK):
-        sys.exit(f"{program} isn't a program that can be run; `-` asks the plain prover alone")
+    program = program_of(given, 1, or_none=True)
     with tempfile.TemporaryDirectory() as name:
         folder = Path(name)
         checkers = Checkers(folder)

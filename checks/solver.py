@@ -15,6 +15,7 @@ import subprocess
 import sys
 import tempfile
 
+from base import CHECKS, ask, program_of
 from calls import copy_with
 from plain_judge import court_of, holds
 from plain_rules import Facts
@@ -22,8 +23,6 @@ from solving import generated_texts
 from tools import texts
 from tools.texts import Literal, NeedsLine, Version, WishLine
 
-HERE = os.path.dirname(os.path.abspath(__file__))
-TOP = os.path.dirname(HERE)
 LIBRARIES = "resolvo_pool_core resolvo_pool resolvo_proof resolvo_state resolvo resolvo_catalogue_core resolvo_catalogue"
 
 
@@ -32,7 +31,7 @@ LIBRARIES = "resolvo_pool_core resolvo_pool resolvo_proof resolvo_state resolvo 
 
 def answers_of(rt, pairs, folder):
     """What the library's calls answer to each pair: lists of lines, whose words are parted by tabs."""
-    crate = copy_with(folder, "solver", os.path.join(HERE, "solver"), LIBRARIES)
+    crate = copy_with(folder, "solver", os.path.join(CHECKS, "solver"), LIBRARIES)
     asked = os.path.join(crate, "pairs")
     with open(asked, "w") as file:
         file.write("".join(f"== pair\n{catalogue}== request\n{request}" for catalogue, request in pairs))
@@ -245,19 +244,15 @@ def compare(pair, answer_lines, output):
 
 def main():
     count = int(sys.argv[1]) if len(sys.argv) > 1 else 1000
-    program = sys.argv[2] if len(sys.argv) > 2 else os.path.join(TOP, "crates/resolve/out/resolve")
+    program = program_of(sys.argv, 2)
     rt = sys.argv[3] if len(sys.argv) > 3 else "rt"
     rng = random.Random(14)
     pairs = [generated_texts(rng) for _ in range(count)]
     counts = {"install": 0, "refused": 0}
     with tempfile.TemporaryDirectory() as folder:
         answers = answers_of(rt, pairs, os.path.join(folder, "copy"))
-        paths = [os.path.join(folder, part) for part in ("catalogue", "request")]
         for k, (pair, lines) in enumerate(zip(pairs, answers)):
-            for path, text in zip(paths, pair):
-                with open(path, "w") as file:
-                    file.write(text)
-            output = subprocess.run([program, "solve", *paths], capture_output=True).stdout
+            output = ask(program, folder, pair)[1]
             try:
                 compare(pair, lines, output)
             except AssertionError as fault:

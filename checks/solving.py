@@ -9,19 +9,16 @@ all rules and no line has alternatives, they must be the entries above the first
 that fit. A wish may be left out only where no rule-keeping set holds it with all entries above its line. Each form of line occurs
 in 1,000 pairs.
 """
-import os
 import random
-import subprocess
 import sys
 import tempfile
 
+from base import ask, program_of
 from judging import Prover, some_spec, some_texts
 from plain_judge import holds, judge, obeys
 from plain_report import report as plain_report
 from tools import texts
 from tools.texts import FavourLine, ManyLine, NeedsLine, Version, VersionLine, WishLine, cases
-
-HERE = os.path.dirname(os.path.abspath(__file__))
 
 
 def blocks_of(catalogue):
@@ -193,30 +190,26 @@ def check(catalogue_text, request_text, status, report):
             assert sorted(flat) == sorted(chosen), f"the newest are {flat}"
 
 
-def answer_of(program, pair, paths):
+def answer_of(program, pair, folder):
     """The status and the output of the program, or of the plain search."""
     if program == "-":
         catalogue = texts.read_catalogue(pair[0].encode())
         found = plain_report(catalogue, texts.read_request(pair[1].encode(), catalogue))
         return int(isinstance(found, texts.Refused)), texts.report_text(found).decode()
-    for path, text in zip(paths, pair):
-        with open(path, "w") as file:
-            file.write(text)
-    run = subprocess.run([program, "solve", *paths], capture_output=True, text=True)
-    return run.returncode, run.stdout
+    status, output = ask(program, folder, pair)
+    return status, output.decode()
 
 
 def main():
     given, with_many = [word for word in sys.argv[1:] if word != "--many"], "--many" in sys.argv
     pairs = int(given[0]) if given else 1000
-    program = given[1] if len(given) > 1 else os.path.join(HERE, "../crates/resolve/out/resolve")
+    program = program_of(given, 1, or_none=True)
     rng, counts, forms, several = random.Random(9), {0: 0, 1: 0}, set(), 0
     with tempfile.TemporaryDirectory() as folder:
-        paths = [os.path.join(folder, part) for part in ("catalogue", "request")]
         for k in range(pairs):
             pair = generated_texts(rng, with_many)
             forms |= forms_of(*pair)
-            status, output = answer_of(program, pair, paths)
+            status, output = answer_of(program, pair, folder)
             try:
                 check(*pair, status, output)
             except AssertionError as fault:

@@ -11,7 +11,9 @@ of `resolvo_store_rows` says how calls are spelled.
 import os
 import sys
 
-FOLDER = os.path.join(os.path.dirname(os.path.abspath(__file__)), "../crates/resolvo_store_rows")
+from base import TOP
+
+FOLDER = os.path.join(TOP, "crates/resolvo_store_rows")
 FILE = os.path.join(FOLDER, "stdin")
 STDOUT = os.path.join(FOLDER, "stdout")
 SEEDS = 1000

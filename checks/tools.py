@@ -19,9 +19,7 @@ import sys
 import tempfile
 from collections import Counter
 
-HERE = os.path.dirname(os.path.abspath(__file__))
-sys.path[:0] = [os.path.join(HERE, ".."), HERE]
-
+from base import fail, must, program_of
 from judging import Prover, some_texts
 from plain_judge import judge
 from solving import generated_texts
@@ -32,15 +30,6 @@ from tools.tests.test_views import PAIRS, loads
 
 AWKWARD_NAMES = ["<script>alert('1')</script>", "a&b\"c", "é|ü", "b", "c", "src:x", "@import", "url(x)", "d", "any", "not", "x;y]"]
 AWKWARD_TEXTS = ["1..2", "1.", ".1", "holds", "*", "<b>", "1;", "2]", "=3", "3", "2", "1:1.0-1+b2~rc1", "line"]
-
-
-def fail(what, *details):
-    sys.exit("\n".join([what, *(d if isinstance(d, str) else repr(d) for d in details)]))
-
-
-def must(test, what, *details):
-    if not test:
-        fail(what, *details)
 
 
 # ---- locks
@@ -302,10 +291,10 @@ def check_views(count):
 def main():
     pairs = int(sys.argv[1]) if len(sys.argv) > 1 else 500
     reports = int(sys.argv[2]) if len(sys.argv) > 2 else 500
-    program = sys.argv[3] if len(sys.argv) > 3 else os.path.join(HERE, "../crates/resolve/out/resolve")
+    program = program_of(sys.argv, 3, or_none=True)
     check_views(reports)
     if program != "-":
-        check_locks(os.path.abspath(program), pairs)
+        check_locks(program, pairs)
 
 
 if __name__ == "__main__":
