@@ -1,4 +1,5 @@
-/* Prints what to install for a catalogue and a request, and asks the judge about it. Status 0 is install, 1 refused.
+/* Prints what to install for a catalogue and a request, and asks the judge about it. Status 0 is install, 1 refused,
+   and 2 that there is no answer which the judge accepts.
 
    cc example.c -I. -L../../out/embedding -l:libresolve.a -o example
    ./example ../../examples/app.catalogue ../../examples/app.request */
@@ -60,8 +61,7 @@ int main(int count, char **words)
 		fprintf(stderr, "resolve ended with %u\n", result.ending);
 		return 2;
 	}
-	fwrite(report.bytes, 1, report.length, stdout);
-	if (fflush(stdout) != 0) {
+	if (fwrite(report.bytes, 1, report.length, stdout) != report.length || fflush(stdout) != 0) {
 		perror("standard output");
 		return 2;
 	}
@@ -70,9 +70,13 @@ int main(int count, char **words)
 	uint8_t verdict[64];
 	resolve_result judged = resolve_judge(catalogue.bytes, catalogue.length, request.bytes, request.length,
 					    report.bytes, report.length, verdict, sizeof verdict);
-	fprintf(stderr, "the judge says %.*s", (int)judged.length, (const char *)verdict);
 	free(catalogue.bytes);
 	free(request.bytes);
 	free(report.bytes);
-	return (int)result.ending;
+	if (judged.ending > RESOLVE_NO) {
+		fprintf(stderr, "the judge ended with %u\n", judged.ending);
+		return 2;
+	}
+	fprintf(stderr, "the judge says %.*s", (int)judged.length, (const char *)verdict);
+	return judged.ending == RESOLVE_YES ? (int)result.ending : 2;
 }

@@ -2,7 +2,8 @@
    docs/FORMATS.md has the texts.
 
    No call keeps anything. The caller owns all memory that it passes, and a call writes to `out` alone. Calls may run in
-   several threads at once, as long as no two write to the same room. Link with libresolve.a or libresolve.so; the archive
+   several threads at once, as long as no two write to the same room. No call sets errno or a signal's action, and none may
+   be made in a signal handler. Link with libresolve.a or libresolve.so; the archive
    libresolve_judge.a has `resolve_judge` alone, without the solver. */
 #ifndef RESOLVE_H
 #define RESOLVE_H
@@ -21,7 +22,7 @@ enum resolve_ending {
 	RESOLVE_YES = 0,       /* the report holds: `yes` */
 	RESOLVE_NO = 1,        /* it doesn't, from a line on: `no line N` */
 	RESOLVE_FAULTY = 2,    /* a line outside the grammar: `fault at catalogue line N`, or of the request */
-	RESOLVE_TOO_LONG = 4,  /* a text has more bytes than it may have */
+	RESOLVE_TOO_LONG = 4,  /* a catalogue or a request has more than 2^24 bytes, or a report 2^30 */
 	RESOLVE_NO_MEMORY = 5, /* malloc or realloc answered NULL */
 	RESOLVE_NO_IDS = 6,    /* more than 2^32 numbers of a kind would be needed */
 	RESOLVE_GIVEN_UP = 8   /* the budget of `resolve_solve_within` was used up */

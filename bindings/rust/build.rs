@@ -11,7 +11,7 @@ fn main() {
         None => vec![here.join("../../lib"), here.join("../../out/embedding")],
     };
     let Some(found) = folders.iter().find(|folder| folder.join("libresolve.a").is_file()) else {
-        panic!("no libresolve.a: run bindings/archives.sh out/embedding, or set RESOLVE_LIB_DIR");
+        panic!("no libresolve.a in {folders:?}: run bindings/archives.sh out/embedding, or give RESOLVE_LIB_DIR the folder's whole path");
     };
     let found = found.canonicalize().expect("the folder is there");
     println!("cargo:rerun-if-changed={}", found.join("libresolve.a").display());

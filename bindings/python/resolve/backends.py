@@ -2,6 +2,7 @@
 from __future__ import annotations
 
 import ctypes
+import operator
 import os
 import shutil
 import subprocess
@@ -21,11 +22,11 @@ class ResolveError(Exception):
 
 
 class Unavailable(ResolveError):
-    """There is neither a shared object nor a program, or the program failed."""
+    """There is neither a shared object nor a program, the object can't be loaded, or the program failed."""
 
 
 class TooLong(ResolveError):
-    """A text has more bytes than it may have."""
+    """A catalogue or a request has more than 2^24 bytes, or a report 2^30."""
 
 
 class NoIds(ResolveError):
@@ -42,6 +43,11 @@ class Backend(Protocol):
     def solve(self, catalogue: Bytes, request: Bytes, budget: Optional[int] = None) -> tuple[int, bytes]: ...
 
     def judge(self, catalogue: Bytes, request: Bytes, report: Bytes) -> tuple[int, bytes]: ...
+
+
+def bytes_of(text: Bytes) -> bytes:
+    """The bytes of a text. A memoryview first: `bytes` takes a number too, and gives that many zeros."""
+    return bytes(memoryview(text))
 
 
 def lack(ending: int) -> Exception:
@@ -68,13 +74,17 @@ class Library:
     """The calls of a shared object. Other threads go on while a call runs."""
 
     def __init__(self, path: Union[str, "os.PathLike[str]"], room: int = 65_536) -> None:
-        """`room` bytes are taken for a text at first; a longer text takes a second call."""
+        """`room` bytes are taken for a text at first; a longer text takes a second call. A path of no file goes to the loader as it is."""
         self.path = os.fspath(path)
         self.room = room
-        loaded = ctypes.CDLL(self.path)
+        try:
+            # a name without a slash would be looked for in the system's folders alone
+            loaded = ctypes.CDLL(os.path.abspath(self.path) if os.path.exists(self.path) else self.path)
+            self._judge = loaded.resolve_judge
+        except (OSError, AttributeError) as error:
+            raise Unavailable(str(error)) from error
         text = [ctypes.c_char_p, ctypes.c_size_t]
         out = [ctypes.c_char_p, ctypes.c_size_t]
-        self._judge = loaded.resolve_judge
         self._judge.argtypes = text * 3 + out
         self._judge.restype = CallResult
         # an archive of the judge alone has no solver
@@ -87,8 +97,7 @@ class Library:
             self._solve_within.restype = CallResult
 
     def _call(self, function, texts: Sequence[Bytes], *more: int) -> tuple[int, bytes]:
-        # a memoryview first: `bytes` takes a number too, and gives that many zeros
-        arguments = [part for text in map(bytes, map(memoryview, texts)) for part in (text, len(text))] + list(more)
+        arguments = [part for text in map(bytes_of, texts) for part in (text, len(text))] + list(more)
         room = self.room
         while True:
             out = ctypes.create_string_buffer(room) if room else None
@@ -104,6 +113,7 @@ class Library:
             raise Unavailable(f"{self.path} has the judge alone")
         if budget is None:
             return self._call(self._solve, (catalogue, request))
+        budget = operator.index(budget)
         if not 0 <= budget <= MOST_BUDGET:
             raise ValueError(f"a budget is a number from 0 to {MOST_BUDGET}, and this is {budget}")
         return self._call(self._solve_within, (catalogue, request), budget)
@@ -130,7 +140,7 @@ class Program:
             paths = [os.path.join(folder, name) for name in ("catalogue", "request", "report")[:len(texts)]]
             for path, text in zip(paths, texts):
                 with open(path, "wb") as file:
-                    file.write(text)
+                    file.write(bytes_of(text))
             try:
                 ended = subprocess.run([self.path, word, *paths], stdin=subprocess.DEVNULL, stdout=subprocess.PIPE, check=False)
             except OSError as error:
@@ -156,13 +166,16 @@ _default: Optional[Backend] = None
 
 def default_backend() -> Backend:
     """The shared object that RESOLVE_LIBRARY names or that lies in this package; else the program that RESOLVE names, that
-    lies in this package, or that is found on PATH."""
+    lies in this package, or that is found on PATH. A RESOLVE_LIBRARY that isn't there is passed over for a RESOLVE alone."""
     global _default
     if _default is None:
-        library = os.environ.get("RESOLVE_LIBRARY") or os.path.join(HERE, "libresolve.so")
+        named = os.environ.get("RESOLVE_LIBRARY")
+        library = named or os.path.join(HERE, "libresolve.so")
         program = os.environ.get("RESOLVE") or shutil.which("resolve", path=HERE) or shutil.which("resolve")
         if os.path.exists(library):
             _default = Library(library)
+        elif named and not os.environ.get("RESOLVE"):
+            raise Unavailable(f"RESOLVE_LIBRARY names {named}, which isn't there")
         elif program is not None:
             _default = Program(program)
         else:

@@ -3,6 +3,7 @@ import os
 import sys
 import tempfile
 import unittest
+from unittest import mock
 
 HERE = os.path.dirname(os.path.abspath(__file__))
 sys.path.insert(0, os.path.dirname(HERE))
@@ -80,10 +81,36 @@ class Examples(unittest.TestCase):
         self.assertEqual(answer, solve(catalogue, request))
         self.assertRaises(ValueError, solve, catalogue, request, budget=2**64)
         self.assertRaises(ValueError, solve, catalogue, request, budget=-1)
+        for wrong in (1.5, "3"):
+            self.assertRaises(TypeError, solve, catalogue, request, budget=wrong)
 
     def test_bytes_of_any_kind(self):
         catalogue = bytearray(example("app.catalogue"))
         self.assertEqual(solve(catalogue, memoryview(example("app.request"))).text, example("app.report"))
+        doubled = b"".join(bytes([byte, 0]) for byte in catalogue)
+        self.assertEqual(solve(memoryview(doubled)[::2], example("app.request")).text, example("app.report"))
+
+    def test_no_shared_object(self):
+        """Neither is one: a file of another kind, a library without these calls, and no file."""
+        for path in (__file__, "libc.so.6", "/nonexistent.so"):
+            with self.assertRaises(resolve.Unavailable, msg=path):
+                resolve.Library(path)
+        with mock.patch("resolve.backends._default", None), mock.patch.dict(os.environ, {"RESOLVE_LIBRARY": "/nonexistent.so"}):
+            os.environ.pop("RESOLVE", None)
+            with self.assertRaisesRegex(resolve.Unavailable, "RESOLVE_LIBRARY names /nonexistent.so"):
+                resolve.default_backend()
+
+    def test_a_shared_object_beside(self):
+        """A path without a slash is a file of this folder, where there is one."""
+        backend = resolve.default_backend()
+        if not isinstance(backend, resolve.Library):
+            self.skipTest("no shared object")
+        before, path = os.getcwd(), os.path.abspath(backend.path)
+        os.chdir(os.path.dirname(path))
+        try:
+            self.assertEqual(solve(b"", b"", resolve.Library(os.path.basename(path))).text, b"install\n")
+        finally:
+            os.chdir(before)
 
     def test_numbers_and_words_are_no_texts(self):
         for wrong in (5, "version a 1", None, [1]):

@@ -63,9 +63,9 @@ pub enum Verdict {
 /// Why there is no text.
 #[derive(Clone, Copy, Debug, PartialEq, Eq)]
 pub enum Lack {
-    /// A text has more bytes than it may have.
+    /// A catalogue or a request has more than 2^24 bytes, or a report 2^30.
     TooLong,
-    /// `malloc` or `realloc` gave no memory.
+    /// `malloc` or `realloc` gave no memory, or there is none for the text.
     Memory,
     /// More numbers of a kind would be needed than there are.
     Ids,
@@ -89,7 +89,9 @@ impl std::error::Error for Lack {}
 /// The ending 0, 1 or 2 and the whole text of a call that is given a room.
 fn whole(mut room: usize, call: impl Fn(*mut u8, usize) -> c::CallResult) -> Result<(u32, Vec<u8>), Lack> {
     loop {
-        let mut text = vec![0; room];
+        let mut text = Vec::new();
+        text.try_reserve_exact(room).map_err(|_| Lack::Memory)?;
+        text.resize(room, 0);
         let result = call(text.as_mut_ptr(), room);
         match result.ending {
             0..=2 => {}
