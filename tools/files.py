@@ -4,6 +4,7 @@ A file is written whole or not at all: beside its place first, and then moved th
 """
 from __future__ import annotations
 
+import errno
 import io
 import os
 import shutil
@@ -101,13 +102,52 @@ def write_bytes(path: Optional[str], data: bytes) -> None:
         write_output(data)
         return
     try:
-        if os.path.exists(path) and not os.path.isfile(path) and not os.path.isdir(path):
+        if is_device(path):
             with open(path, "wb") as out:
                 out.write(data)
         else:
             replace_file(path, data)
     except OSError as error:
         raise Failure(path, None, f"can't be written: {error.strerror}") from None
+
+
+def write_both(path: Optional[str], data: bytes, request_path: Optional[str], request: bytes) -> None:
+    """Writes a catalogue, and its request where a file for that is named: of two plain files both or neither."""
+    if request_path is None:
+        write_bytes(path, data)
+        return
+    places = [each if each == "-" or is_device(each) else os.path.realpath(each) for each in (path or "-", request_path)]
+    if places[0] == places[1] and not is_device(request_path):
+        raise Failure("--request", None, f"{request_path} is the catalogue's place")
+    if request_path == "-" or is_device(request_path):
+        write_bytes(path, data)
+        write_bytes(request_path, request)
+        return
+    try:
+        if os.path.isdir(request_path):
+            raise IsADirectoryError(errno.EISDIR, os.strerror(errno.EISDIR))
+        beside = file_beside(request_path, request)
+    except OSError as error:
+        raise Failure(request_path, None, f"can't be written: {error.strerror}") from None
+    try:
+        write_bytes(path, data)
+        move_to(beside, request_path)
+    except BaseException:
+        os.unlink(beside)
+        raise
+
+
+def move_to(beside: str, path: str) -> None:
+    """Moves a new file to its place."""
+    try:
+        os.replace(beside, os.path.realpath(path))
+    except OSError as error:
+        raise Failure(path, None, f"can't be written: {error.strerror}") from None
+
+
+def is_device(path: str) -> bool:
+    """Whether a path is of something that is written as it is: a pipe or a device."""
+    return os.path.exists(path) and not os.path.isfile(path) and not os.path.isdir(path)
 
 
 def write_output(data: bytes) -> None:
@@ -162,17 +202,26 @@ def complain(text: str) -> None:
 
 def replace_file(path: str, data: bytes) -> None:
     """Writes a new file beside the old one and moves it over that; the file keeps its links and its mode."""
+    beside = file_beside(path, data)
+    try:
+        os.replace(beside, os.path.realpath(path))
+    except BaseException:
+        os.unlink(beside)
+        raise
+
+
+def file_beside(path: str, data: bytes) -> str:
+    """A new file in the folder of another one, with its mode."""
     path = os.path.realpath(path)
-    folder = os.path.dirname(path)
-    handle, beside = tempfile.mkstemp(prefix=".resolve-tools-", dir=folder)
+    handle, beside = tempfile.mkstemp(prefix=".resolve-tools-", dir=os.path.dirname(path))
     try:
         with os.fdopen(handle, "wb") as out:
             out.write(data)
         os.chmod(beside, mode_of(path))
-        os.replace(beside, path)
     except BaseException:
         os.unlink(beside)
         raise
+    return beside
 
 
 def mode_of(path: str) -> int:

@@ -9,7 +9,8 @@ from tools import texts, view
 from tools.apt_solver import main as solve_for_apt
 from tools.bundle import CatalogueFile, load, load_catalogue, load_request
 from tools.debian import apt_lists, import_debian, native_architecture
-from tools.files import Failure, as_files, of_file, progress, read_bytes, run_program, shown_path, status_of, write_bytes
+from tools.files import Failure, as_files, of_file, progress, read_bytes, run_program, shown_path, status_of, write_both
+from tools.files import write_bytes
 from tools.imports import add_imports
 from tools.judge import refusal
 from tools.lock import Lock, check_lock, lock_of, lock_text, locked_versions, mark_lines, plan_lines, read_lock
@@ -68,8 +69,8 @@ def load_lock(path: str) -> Lock:
         return read_lock(read_bytes(path))
 
 
-def expected_lock(catalogue_path: str, report_path: str) -> tuple[Lock, texts.Report]:
-    """The lock of a report, and the report; the lock has no entries where the report is a refusal."""
+def expected_lock(catalogue_path: str, report_path: str) -> tuple[Lock, texts.Report, texts.Catalogue]:
+    """The lock of a report, and what it is made of; the lock has no entries where the report is a refusal."""
     file, data = load_catalogue(catalogue_path), read_bytes(report_path)
     with of_file(report_path):
         report = texts.read_report(data)
@@ -78,12 +79,12 @@ def expected_lock(catalogue_path: str, report_path: str) -> tuple[Lock, texts.Re
         if answer.version not in file.catalogue.line_of:
             reason = f"{catalogue_path} doesn't list {answer.version}: it is a report for another catalogue"
             raise Failure(report_path, line, reason)
-    return lock_of(file, data, install), report
+    return lock_of(file, data, install), report, file.catalogue
 
 
 def lock_write(args: argparse.Namespace) -> bytes:
     """`lock write`."""
-    lock, report = expected_lock(args.catalogue, args.report)
+    lock, report, _ = expected_lock(args.catalogue, args.report)
     if not isinstance(report, texts.Install):
         raise Failure(args.report, 1, "is a refusal, which locks nothing", 1)
     return lock_text(lock)
@@ -127,14 +128,15 @@ def lock_plan(args: argparse.Namespace) -> bytes:
 def lock_check(args: argparse.Namespace) -> bytes:
     """`lock check`."""
     lock = load_lock(args.lock)
-    expected, report = expected_lock(args.catalogue, args.report)
+    expected, report, catalogue = expected_lock(args.catalogue, args.report)
     if not isinstance(report, texts.Install):
         raise Failure(args.report, 1, "is a refusal, which locks nothing", 1)
     check_lock(lock, args.lock, expected, {"catalogue": args.catalogue, "report": args.report})
+    load_request(args.request, catalogue)
     with as_files(args.catalogue, args.request, args.report) as paths:
         status, said = run_program(args.resolve, "judge", *paths)
     if status != 0:
-        raise Failure(args.report, None, f"`resolve judge` says `{said.decode().strip()}`", 1)
+        raise Failure(args.report, None, f"`resolve judge` says `{said.decode().strip()}`; `resolve-tools check` has the reason", 1)
     return f"yes: {len(lock.entries)} entries, and the report is judged right\n".encode()
 
 
@@ -250,7 +252,7 @@ def add_views(commands: argparse._SubParsersAction) -> None:
 # ---- importers
 
 
-def debian(args: argparse.Namespace) -> bytes:
+def debian(args: argparse.Namespace) -> None:
     """`debian`."""
     if bool(args.files) == args.lists:
         raise Failure("debian", None, "the files are due, or --lists alone")
@@ -258,9 +260,7 @@ def debian(args: argparse.Namespace) -> bytes:
         raise Failure("debian", None, "--request goes with --closure, whose roots are asked for")
     paths, native = args.files or apt_lists(), args.arch or native_architecture()
     catalogue, request = import_debian(paths, native, args.closure or [], args.source)
-    if args.request:
-        write_bytes(args.request, request)
-    return catalogue
+    write_both(args.out, catalogue, args.request, request)
 
 
 def apt_solver(_: argparse.Namespace) -> None:

@@ -3,7 +3,7 @@ from __future__ import annotations
 
 import argparse
 from tools import cargo, conda, cudf, pypi
-from tools.files import Failure, progress, write_bytes
+from tools.files import Failure, progress, write_both
 from tools.index import index_catalogue, index_request
 
 Parsers = list[argparse.ArgumentParser]
@@ -119,12 +119,10 @@ def cudf_solve(args: argparse.Namespace) -> bytes:
     return cudf.solve(args.document, cudf_criteria(args), args.keep, args.resolve)
 
 
-def cudf_convert(args: argparse.Namespace) -> bytes:
+def cudf_convert(args: argparse.Namespace) -> None:
     """`cudf convert`."""
     catalogue, request = cudf.convert(args.document, cudf_criteria(args), args.source)
-    if args.request:
-        write_bytes(args.request, request)
-    return catalogue
+    write_both(args.out, catalogue, args.request, request)
 
 
 def add_cudf(commands: argparse._SubParsersAction) -> None:

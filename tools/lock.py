@@ -26,6 +26,7 @@ from tools.reports import Entry, Install, WishedEntry
 from tools.words import PLAIN, Bad, Fault, Spelling, Version, Words, quoted
 
 SUM = re.compile(r"sha256:[0-9a-f]{64}\Z")
+CONFLICT = re.compile(r"<{7} |\|{7} |={7}\Z|>{7} ")  # what version control leaves in a file that it couldn't merge
 
 
 @dataclass(frozen=True)
@@ -158,7 +159,8 @@ def read_lock(data: bytes) -> Lock:
         try:
             reader.line(number, raw)
         except Bad as bad:
-            raise Fault("lock", number, str(bad)) from None
+            merged = f"{quoted(raw)} is of a merge: take one side whole, solve again, and write the lock anew"
+            raise Fault("lock", number, merged if CONFLICT.match(raw) else str(bad)) from None
     if unfinished:
         raise Fault("lock", len(lines) + 1, "its last line has no newline: was the file cut off?")
     if len(lines) < 4 or reader.count != len(reader.entries):
@@ -275,7 +277,7 @@ def check_lock(lock: Lock, lock_path: str, expected: Lock, paths: dict[str, str]
     sums = (("catalogue", lock.catalogue_sum, expected.catalogue_sum), ("report", lock.report_sum, expected.report_sum))
     for line, (text, has, due) in enumerate(sums, 2):
         if has != due:
-            raise Failure(lock_path, line, f"the sum is of another {text} than {paths[text]}", 1)
+            raise Failure(lock_path, line, f"the sum is of another {text} than {paths[text]}; `lock write` makes a new lock", 1)
     for line, (mine, theirs) in enumerate(zip(lock.entries, expected.entries), 5):
         if mine != theirs:
             raise Failure(lock_path, line, f"the report has `{entry_text(theirs)}`", 1)

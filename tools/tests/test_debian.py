@@ -135,6 +135,17 @@ class Catalogues(FolderCase):
         with open(request) as source:
             self.assertEqual(source.read(), "needs app 2\nwish d 1\nwish lib 3\n")
 
+    def test_a_request_and_its_catalogue_are_written_both_or_neither(self):
+        path = self.write("Packages", stanza("app", "1"))
+        command = ("debian", path, "--arch", "amd64", "--closure", "app", "--request")
+        self.assert_fault(f"{self.path('none/c')}: can't be written: No such file or directory", *command, self.path("r"), "--out", self.path("none/c"))
+        self.assert_fault(f"{self.path('none/r')}: can't be written: No such file or directory", *command, self.path("none/r"), "--out", self.path("c"))
+        self.assert_fault(f"{self.folder}: can't be written: Is a directory", *command, self.folder, "--out", self.path("c"))
+        self.assert_fault(f"--request: {self.path('c')} is the catalogue's place", *command, self.path("c"), "--out", self.path("none/../c"))
+        self.assert_fault("--request: - is the catalogue's place", *command, "-")
+        self.assertEqual(run(*command, "-", "--out", self.path("c")), (0, b"needs app\n", ""))
+        self.assertEqual(run(*command, "/dev/null", "--out", "/dev/null"), (0, b"", ""))
+
     def test_a_cycle_and_unknown_fields(self):
         text = stanza("a", "1", "Depends: b", "X-New: é (>= ,", " more") + stanza("b", "1", "Depends: a")
         self.assertEqual(self.lines(text), ["version a 1", "needs b", "version b 1", "needs a"])

@@ -133,7 +133,7 @@ class ProgramTest(FolderCase):
         self.assert_check("#!/bin/sh\n", prints + "`` with status 0")
         self.assert_check("#!/bin/sh\necho yes\nexit 1\n", prints + "`yes\\n` with status 1")
         self.assert_check("#!/bin/sh\necho no line 2\n", prints + "`no line 2\\n` with status 0")
-        self.assert_check("#!/bin/sh\necho no line 2\nexit 1\n", "{report}: `resolve judge` says `no line 2`", 1)
+        self.assert_check("#!/bin/sh\necho no line 2\nexit 1\n", "{report}: `resolve judge` says `no line 2`; `resolve-tools check` has the reason", 1)
         self.assert_check("#!/bin/sh\nkill -9 $$\n", "{program}: judge: status -9")
 
     def test_a_file_that_cannot_be_run(self) -> None:

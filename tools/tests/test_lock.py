@@ -84,6 +84,15 @@ class Locks(FolderCase):
             self.assertIn(f"tools: {path}: line {line}: ", error)
             self.assertIn(reason, error)
 
+    def test_a_merge(self):
+        lines = self.text.split(b"\n")
+        merged = [*lines[:4], b"<<<<<<< HEAD", lines[4], b"=======", lines[4], b">>>>>>> other", *lines[5:]]
+        for at, line in ((5, b"<<<<<<< HEAD"), (5, b"======="), (5, b">>>>>>> other"), (5, b"||||||| base")):
+            merged[at - 1] = line
+            path = self.write("merged.lock", b"\n".join(merged))
+            wanted = f"{path}: line {at}: `{line.decode()}` is of a merge: take one side whole, solve again, and write the lock anew"
+            self.assert_fault(wanted, "lock", "lines", "--keep", self.catalogue, path)
+
     def test_another_encoding(self):
         path = self.write("wide.lock", self.text.decode().encode("utf-16"))
         self.assertEqual(run("lock", "plan", path, self.lock)[0], 2)
@@ -200,16 +209,19 @@ class Locks(FolderCase):
         status, out, error = run("lock", "check", self.lock, *files, "--resolve", self.program("yes", 0))
         self.assertEqual((status, out, error), (0, b"yes: 3 entries, and the report is judged right\n", ""))
         no = self.program("no line 3", 1)
-        self.assert_fault(f"{self.report}: `resolve judge` says `no line 3`", "lock", "check", self.lock, *files, "--resolve", no, status=1)
+        self.assert_fault(f"{self.report}: `resolve judge` says `no line 3`; `resolve-tools check` has the reason", "lock", "check", self.lock, *files, "--resolve", no, status=1)
         fault = self.program("fault at request line 1", 2)
         self.assert_fault(f"{fault}: judge: fault at request line 1", "lock", "check", self.lock, *files, "--resolve", fault)
+        request = self.write("bad.request", b"needs app\r\n")
+        wanted = f"{request}: line 1: a carriage return; lines end with a newline alone"
+        self.assert_fault(wanted, "lock", "check", self.lock, self.catalogue, request, self.report, "--resolve", fault)
 
     def test_check_of_other_files(self):
         request, no_program = data_path("debian.request"), self.path("none")
         moved = self.write("moved.catalogue", data_bytes("debian.catalogue") + NEWER)
-        self.assert_fault(f"{self.lock}: line 2: the sum is of another catalogue than {moved}", "lock", "check", self.lock, moved, request, self.report, status=1)
+        self.assert_fault(f"{self.lock}: line 2: the sum is of another catalogue than {moved}; `lock write` makes a new lock", "lock", "check", self.lock, moved, request, self.report, status=1)
         other = self.write("other.report", data_bytes("debian.report").replace(b"=3 for", b"=2 for"))
-        self.assert_fault(f"{self.lock}: line 3: the sum is of another report than {other}", "lock", "check", self.lock, self.catalogue, request, other, status=1)
+        self.assert_fault(f"{self.lock}: line 3: the sum is of another report than {other}; `lock write` makes a new lock", "lock", "check", self.lock, self.catalogue, request, other, status=1)
         edited = self.write("edited.lock", self.text.replace(b"13.1.0-2", b"12.2.0-14+deb12u1"))
         wanted = f"{edited}: line 6: the report has `libstdc++6 13.1.0-2 for app 1.1-1 line 10`"
         self.assert_fault(wanted, "lock", "check", edited, self.catalogue, request, self.report, status=1)
