@@ -2,9 +2,9 @@
    docs/FORMATS.md has the texts.
 
    No call keeps anything. The caller owns all memory that it passes, and a call writes to `out` alone. Calls may run in
-   several threads at once, as long as no two write to the same room. None may be made in
-   a signal handler, or in the forked child of a process with threads. Link with libresolve.a or libresolve.so; the archive
-   libresolve_judge.a has `resolve_judge` alone, without the solver. */
+   several threads at once, as long as no two write to the same room. None may be made in a signal handler, or in the
+   forked child of a process with threads. Link with libresolve.a or libresolve.so; the archive libresolve_judge.a has
+   `resolve_judge` alone, without the solver. */
 #ifndef RESOLVE_H
 #define RESOLVE_H
 
