@@ -27,7 +27,9 @@ NEEDS = (("Pre-Depends", "pre-depends"), ("Depends", "depends"))
 LIMITS = (("Conflicts", "conflicts"), ("Breaks", "breaks"))
 PRIORITIES = {"": 0, "required": 1, "important": 2, "standard": 3, "optional": 4, "extra": 5}
 UNPACKED: dict[str, Callable[[bytes], bytes]] = {
-    ".gz": gzip.decompress, ".xz": lzma.decompress, ".lzma": lzma.decompress, ".bz2": bz2.decompress,
+    ".gz": gzip.decompress,
+    ".xz": lambda data: streams(lzma.LZMADecompressor, data), ".lzma": lambda data: streams(lzma.LZMADecompressor, data),
+    ".bz2": lambda data: streams(bz2.BZ2Decompressor, data),
 }
 ARCHITECTURE = re.compile(r"[a-z0-9][a-z0-9-]*\Z")
 APT_HELPER = "/usr/lib/apt/apt-helper"
@@ -350,6 +352,19 @@ def unpacked(path: str) -> bytes:
         raise Failure(shown_path(path), None, f"can't be unpacked: {error}") from None
 
 
+def streams(unpacker_of: Callable[[], lzma.LZMADecompressor | bz2.BZ2Decompressor], data: bytes) -> bytes:
+    """What one packed stream after the other holds. The modules' own calls pass over what follows the last one."""
+    parts = []
+    while data or not parts:
+        unpacker = unpacker_of()
+        parts.append(unpacker.decompress(data))
+        if not unpacker.eof:
+            raise EOFError("Compressed file ended before the end-of-stream marker was reached")
+        # (zeros may fill a file up)
+        data = unpacker.unused_data.lstrip(b"\0")
+    return b"".join(parts)
+
+
 def apt_text(path: str) -> bytes:
     """The text of one of apt's own lists, which apt unpacks."""
     try:
@@ -357,7 +372,8 @@ def apt_text(path: str) -> bytes:
     except OSError as error:
         raise Failure(path, None, f"can't be unpacked: {APT_HELPER}: {error.strerror}") from None
     if done.returncode:
-        raise Failure(path, None, f"can't be unpacked: {done.stderr.decode('utf-8', 'replace').strip()}")
+        said = "; ".join(line.strip() for line in done.stderr.decode("utf-8", "replace").splitlines() if line.strip())
+        raise Failure(path, None, f"can't be unpacked: {said}")
     return done.stdout
 
 

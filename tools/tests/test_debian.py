@@ -1,4 +1,5 @@
 """Debian: versions in order, relations as runs of numbers, catalogues worked out by hand, every bad input; apt's solver."""
+import bz2
 import contextlib
 import gzip
 import io
@@ -152,8 +153,11 @@ class Catalogues(FolderCase):
 
     def test_packed_files(self):
         plain = run("debian", self.write("p", BASE), "--arch", "amd64")
-        for name, data in (("p.gz", gzip.compress(BASE.encode())), ("p.xz", lzma.compress(BASE.encode()))):
-            self.assertEqual(run("debian", self.write(name, data), "--arch", "amd64"), plain)
+        data = BASE.encode()
+        for name, packed in (("p.gz", gzip.compress(data)), ("p.xz", lzma.compress(data)), ("p.bz2", bz2.compress(data))):
+            self.assertEqual(run("debian", self.write(name, packed), "--arch", "amd64"), plain)
+        halves = lzma.compress(data[:99]) + lzma.compress(data[99:]) + b"\0" * 4
+        self.assertEqual(run("debian", self.write("p.xz", halves), "--arch", "amd64"), plain)
 
 
 class Errors(FolderCase):
@@ -188,6 +192,11 @@ class Errors(FolderCase):
         path = self.write("p.gz", gzip.compress(BASE.encode())[:-9])
         reason = "can't be unpacked: Compressed file ended before the end-of-stream marker was reached"
         self.assert_fault(f"{path}: {reason}", "debian", path, "--arch", "amd64", "--out", self.path("out"))
+        for name, data in (("p.xz", lzma.compress(b"a")), ("p.bz2", bz2.compress(b"a"))):
+            path = self.write(name, data + b"more")
+            self.assertIn(f"{path}: can't be unpacked: ", run("debian", path, "--arch", "amd64")[2])
+            path = self.write(name, data[:-5])
+            self.assert_fault(f"{path}: {reason}", "debian", path, "--arch", "amd64")
         path = self.write("p.xz", b"nothing packed")
         self.assert_fault(f"{path}: can't be unpacked: Input format not supported by decoder", "debian", path, "--arch", "amd64")
 
