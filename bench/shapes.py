@@ -260,6 +260,54 @@ def self_barring_by_ranges(count, _seed):
     return p
 
 
+def versions_in_step(count, _seed):
+    """Each version of a package needs that of its own number of another one, of which the oldest is asked for."""
+    p = Problem()
+    for v in range(count):
+        p.version("a", v, [one("b", v)])
+    for v in range(count):
+        p.version("b", v)
+    p.ask(any_of("a"))
+    p.ask(one("b", 0))
+    return p
+
+
+def windows(count, _seed):
+    """A chain of 200 packages of which each version needs one of the twenty around its own number of the next. The newer nine tenths of the
+    last one's versions need a package that isn't there."""
+    p = Problem()
+    for k in range(200):
+        for v in range(count):
+            needs = [[(f"p{k + 1}", max(v - 10, 0), v + 10)]] if k < 199 else [[any_of("gone")]] if v > count // 10 else []
+            p.version(f"p{k}", v, *needs)
+    p.ask(any_of("p0"))
+    return p
+
+
+def deep_steps(count, _seed):
+    """A chain of 20 packages of which each version needs that of its own number of the next. Only the oldest of the last one's versions
+    doesn't need a package that isn't there."""
+    p = Problem()
+    for k in range(20):
+        for v in range(count):
+            needs = [[one(f"p{k + 1}", v)]] if k < 19 else [[any_of("gone")]] if v else []
+            p.version(f"p{k}", v, *needs)
+    p.ask(any_of("p0"))
+    return p
+
+
+def limits_of_each(count, _seed):
+    """Each version of a package limits another one to a version that it doesn't have; both are asked for, and have as many versions."""
+    p = Problem()
+    for v in range(count):
+        p.version("a", v, limits=[one("b", count)])
+    for v in range(count):
+        p.version("b", v)
+    p.ask(any_of("a"))
+    p.ask(any_of("b"))
+    return p
+
+
 # ---- ecosystems without a search
 
 

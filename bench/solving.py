@@ -64,13 +64,17 @@ class Row:
 
 
 DESKTOPS = "task-kde-desktop", "task-gnome-desktop"
-LIBSOLV, PUBGRUB, PUBGRUB_TWICE = (("libsolv", 1),), (("PubGrub", 1),), (("PubGrub", 2),)
+LIBSOLV, PUBGRUB, PUBGRUB_TWICE, KEPT = (("libsolv", 1),), (("PubGrub", 1),), (("PubGrub", 2),), (("libsolv", 0.75), ("minisat", 0.9))
 SHAPES = (
     Shape("3-sat", shapes.three_sat, (170, 185, 200), (1, 2, 3, 4), (("minisat", 3),)),
     Shape("colouring", shapes.colouring, (150, 200, 300), (1, 2, 3), (("minisat", 3),)),
-    Shape("pigeons", shapes.pigeons, (7, 8, 9)),
-    Shape("random-10", shapes.random_packages(10), (300, 3_000), (1, 2)),
-    Shape("random-15", shapes.random_packages(15), (300, 3_000), (1, 2)),
+    Shape("pigeons", shapes.pigeons, (7, 8, 9), beside=KEPT),
+    Shape("random-10", shapes.random_packages(10), (300, 3_000), (1, 2), KEPT),
+    Shape("random-15", shapes.random_packages(15), (300, 3_000), (1, 2), KEPT),
+    Shape("versions-in-step", shapes.versions_in_step, (1_000, 10_000), beside=KEPT),
+    Shape("windows", shapes.windows, (30, 300), beside=KEPT),
+    Shape("deep-steps", shapes.deep_steps, (100, 1_000), beside=KEPT),
+    Shape("limits-of-each", shapes.limits_of_each, (250, 500, 1_000)),
     Shape("chain-of-pairs", shapes.chain_of_pairs, (2_000, 6_000, 20_000), beside=LIBSOLV, linear=True),
     Shape("pairs", shapes.pairs(False), (2_000, 6_000, 20_000), beside=LIBSOLV, linear=True),
     Shape("refused-pairs", shapes.pairs(True), (2_000, 6_000, 20_000), beside=LIBSOLV, linear=True),
