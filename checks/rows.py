@@ -12,7 +12,7 @@ import re
 import sys
 import tempfile
 
-from base import PARTS, TOP, ask, program_of
+from base import PARTS, TOP, ask, must, program_of
 from plain_judge import judge
 from tools import texts
 
@@ -145,7 +145,9 @@ def asked(program, row, folder):
 
 
 def main():
-    rows = read_all(sys.argv[1] if len(sys.argv) > 1 else DATA)
+    data = sys.argv[1] if len(sys.argv) > 1 else DATA
+    rows = read_all(data)
+    must(rows, f"{data} has no rows")
     found = [(row, difference(row)) for row in rows if max(map(len, row.sections.values())) < 1_000_000]
     if len(sys.argv) > 2:
         program = program_of(sys.argv, 2)
